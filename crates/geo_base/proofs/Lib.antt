@@ -1,0 +1,3 @@
+pub mod EqualityLaws
+pub mod KeyFaults
+pub mod Winning

@@ -1,0 +1,34 @@
+//! The values that every region agrees on: cells, texts, keys, rows and their names, the number of
+//! a candidate, its outcome, and the claim that two candidates of one epoch settle a row by.
+//!
+//! A text, a key, a row image and a line are checked once, when they are made, and contracts then
+//! see each as a list. Every type here has one total order, values that compare equal are one
+//! value, and a copy equals what it copies.
+#![tactic(auto)]
+
+mod cell;
+mod claim;
+mod duplicate;
+mod equality;
+mod key;
+pub mod limits;
+mod line;
+mod numbers;
+mod outcome;
+mod row_id;
+mod row_image;
+#[cfg(test)]
+mod tests;
+mod txt;
+
+pub use cell::Cell;
+pub use claim::{Claim, beats, pack_claim, unpack_claim, winning_is_an_order};
+pub use duplicate::{Duplicate, NoMemory, copy_items};
+pub use equality::equal_values_are_one;
+pub use key::{Key, KeyFault};
+pub use line::Line;
+pub use numbers::{CandId, Csn, Epoch, RegionNo, TableNo};
+pub use outcome::Outcome;
+pub use row_id::RowId;
+pub use row_image::{RowImage, WrongCount};
+pub use txt::{Txt, TxtFault};

@@ -1,0 +1,43 @@
+//! The limits of regions, epochs, values and runs.
+
+/// Regions of one database.
+pub const MAX_REGIONS: u8 = 8;
+
+/// Epochs between a candidate's start and its own epoch, and epochs of versions that are kept.
+pub const MAX_AGE: u32 = 64;
+
+/// Batches of a region that are sealed and not yet published: a seal is refused at this many.
+pub const MAX_AHEAD: u32 = 8;
+
+/// Candidates of one batch.
+pub const MAX_CANDIDATES: u32 = 4096;
+
+/// Bytes of the spelling of a batch.
+pub const MAX_BATCH_BYTES: u64 = 4_194_304;
+
+/// Rows that one transaction changes.
+pub const MAX_SET_ROWS: u32 = 1024;
+
+/// Bytes of a text.
+pub const MAX_TEXT_BYTES: usize = 1024;
+
+/// Cells of a key.
+pub const MAX_KEY_CELLS: usize = 4;
+
+/// Cells of a row.
+pub const MAX_ROW_CELLS: usize = 32;
+
+/// Cells of a line of an answer.
+pub const MAX_LINE_CELLS: usize = 64;
+
+/// Sessions of one region.
+pub const SESSIONS_PER_REGION: u8 = 64;
+
+/// Bytes of a script.
+pub const SCRIPT_BYTES: usize = 16_777_216;
+
+/// Packets that one line of a script delivers.
+pub const PACKETS_PER_LINE: u32 = 10_000;
+
+/// The greatest number of an open epoch.
+pub const LAST_EPOCH: u32 = 4_294_967_294;
