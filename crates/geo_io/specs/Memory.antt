@@ -1,0 +1,45 @@
+-- What sources, sinks and keepers in memory hold.
+use Rattle.std.specs.Prelude.{ℕ, ◌-◌, ◌++◌, Bool, true, false, List, [], length, replicate, Result, Ok, Err, if◌then◌else◌}
+use Rattle.geo_io.specs.Causes.{raised}
+use Rattle.geo_io.specs.Told.{Lists}
+use Rattle.geo_io.specs.declared.fault.IoFault.{IoFault}
+use Rattle.geo_io.specs.declared.fault.IoFault.TheVariants.{Failed, NoMemory}
+
+-- bytes that are given out from the front, at most so many at once
+pub record Feed : Type 0 where
+  pub left : List ℕ
+  pub piece : ℕ
+
+-- the numbers of the calls that fail, the number of the next call, and how many have failed
+pub record Plan : Type 0 where
+  pub fails : List ℕ
+  pub next : ℕ
+  pub faults : ℕ
+
+-- a plan of which no call was made yet
+abbrev pub new_plan : List ℕ → Plan
+new_plan fails = record { fails = fails; next = 0; faults = 0 }
+
+-- the plan after a call that failed or didn't
+abbrev pub plan_after : Bool → Plan → Plan
+plan_after failed plan = record { fails = plan.fails; next = raised plan.next; faults = if failed then raised plan.faults else plan.faults }
+
+-- a feed some of whose reads fail
+pub record FailingFeed : Type 0 where
+  pub feed : Feed
+  pub plan : Plan
+
+-- bytes that were written, where some of the writes fail
+pub record FailingPage : Type 0 where
+  pub written : List ℕ
+  pub plan : Plan
+
+-- these lists, and an empty one for each of the eight regions that has none
+abbrev pub eight_lists : Lists → Lists
+eight_lists given = given ++ replicate (8 - length given) []
+
+-- the answer is the fault of the object itself, and not want of memory
+abbrev pub is_failed : {T : Type 0} → Result T IoFault → Bool
+is_failed (Ok x) = false
+is_failed (Err Failed) = true
+is_failed (Err NoMemory) = false

@@ -1,0 +1,88 @@
+// The edge of the program: any reader and writer of std. What they give and take is told nowhere.
+ghost use Rattle.std.specs.Prelude.{◌≡◌, None};
+ghost use Rattle.geo_io.specs.Causes.{HasCause};
+
+use crate::{Failed, IoFault, Sink, Source};
+use std::io::{ErrorKind, Read, Write};
+
+/// Gives what a reader of std gives.
+#[derive(Drop)]
+pub struct StdSource<R> {
+    reader: R,
+    faults: u64,
+}
+
+impl<R: Read> StdSource<R> {
+    pub fn new(reader: R) -> Self
+        ensures { ⟦<StdSource<R> as Source>⟧.faults result ≡ 0 }
+    {
+        StdSource { reader, faults: 0 }
+    }
+}
+
+impl<R: Read> Source for StdSource<R> {
+    ghost left = { λ it. None };
+
+    ghost faults = { λ it. it.faults };
+
+    // A read that a signal interrupts gave nothing, and is made again.
+    fn read(&mut self, buf: &mut [u8]) -> Result<usize, Failed> {
+        for _ in 0..u64::MAX {
+            match self.reader.read(buf) {
+                Ok(count) => return Ok(count),
+                Err(error) if error.kind() == ErrorKind::Interrupted => {}
+                Err(_) => break,
+            }
+        }
+        self.faults = self.faults.saturating_add(1);
+        Err(Failed)
+    }
+}
+
+/// Hands to a writer of std what it is given.
+#[derive(Drop)]
+pub struct StdSink<W> {
+    writer: W,
+    faults: u64,
+}
+
+impl<W: Write> StdSink<W> {
+    pub fn new(writer: W) -> Self
+        ensures { ⟦<StdSink<W> as Sink>⟧.faults result ≡ 0 }
+    {
+        StdSink { writer, faults: 0 }
+    }
+
+    /// Hands on what the writer has held back. A closed output is seen here at the latest.
+    pub fn flush(&mut self) -> Result<(), Failed>
+        ensures { HasCause (⟦<StdSink<W> as Sink>⟧.faults self.old) (⟦<StdSink<W> as Sink>⟧.faults self.new) result }
+    {
+        match self.writer.flush() {
+            Ok(()) => Ok(()),
+            Err(_) => {
+                self.faults = self.faults.saturating_add(1);
+                Err(Failed)
+            }
+        }
+    }
+}
+
+impl<W: Write> Sink for StdSink<W> {
+    ghost written = { λ it. None };
+
+    ghost faults = { λ it. it.faults };
+
+    // A writer that takes nothing of something has failed.
+    fn write(&mut self, piece: &[u8]) -> Result<usize, IoFault> {
+        for _ in 0..u64::MAX {
+            match self.writer.write(piece) {
+                Ok(0) if !piece.is_empty() => break,
+                Ok(count) => return Ok(count),
+                Err(error) if error.kind() == ErrorKind::Interrupted => {}
+                Err(_) => break,
+            }
+        }
+        self.faults = self.faults.saturating_add(1);
+        Err(IoFault::Failed)
+    }
+}
