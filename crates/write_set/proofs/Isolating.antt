@@ -1,0 +1,195 @@
+-- The transactions that commit are a snapshot-isolated history.
+use Rattle.std.proofs.Common.{◌≡◌, inl, inr, ⊎_elim, ℕ, zero, suc, ◌+◌, ◌<◌, ◌≤◌, Bool, true, false, cond, ◌||◌, Option, List, [], ◌∷◌, ◌++◌, length, Contains, refl, sym, ap, ◌∙◌, subst, arith}
+use Rattle.std.specs.List.{list_any}
+use Rattle.std.specs.Ordering.{is_eq}
+use Rattle.std.specs.declared.cmp.Ordering.TheVariants.{Less}
+use Rattle.std.proofs.lemmas.Bool.{false≢true, cases_lt}
+use Rattle.geo_base.specs.declared.row_id.RowId.{RowId}
+use Rattle.geo_base.specs.declared.row_image.RowImage.{RowImage}
+use Rattle.geo_base.specs.Order.{row_cmp, row_eq}
+use Rattle.geo_base.specs.OrderLaws.{row_cmp_total, row_eq_ties, row_eq_equiv}
+use Rattle.write_set.specs.declared.change.Change.{Change}
+use Rattle.write_set.specs.Sets.{RowChange, has_row, RowsRise}
+use Rattle.write_set.specs.Journal.{Journal, Placed, candidates_of, batches_at, epochs_of, last_sealed, IsJournal}
+use Rattle.write_set.specs.Merge.{committed, last_change, verdict_of, is_committed}
+use Rattle.write_set.specs.Snapshot.{changes_of, image_of, image_after, snap_at}
+use Rattle.write_set.specs.Isolation.{Commits, AppliesEpoch, AreApart, IsSnapshotIsolated}
+use Rattle.write_set.proofs.Among.{or_false, true_or_false, among_none, among_first, among_later, among_cases, any_among, filtered_among}
+use Rattle.write_set.proofs.Rivals.{fresh_bound, fresh_unchanged, committed_is, row_among}
+use Rattle.write_set.proofs.Placing.{length_epochs, committed_lawful, committed_same}
+
+-- ---- one set of changes
+
+apart_from_less : (row other : RowId) → row_cmp row other ≡ Less → row_eq row other ≡ false
+apart_from_less row other less = row_eq_ties row other ∙ ap is_eq less
+
+pub row_above : (row : RowId) (p : RowChange) (ps : List RowChange) → RowsRise (p ∷ ps) → row_cmp row p.0 ≡ Less → has_row row (p ∷ ps) ≡ false
+row_above row p [] rise less = ap (λ b. b || false) (apart_from_less row p.0 less)
+row_above row p (q ∷ qs) rise less =
+    ap (λ b. b || has_row row (q ∷ qs)) (apart_from_less row p.0 less)
+    ∙ row_above row q qs rise.1 (row_cmp_total.trans row p.0 q.0 less rise.0)
+
+row_once : (p : RowChange) (ps : List RowChange) → RowsRise (p ∷ ps) → has_row p.0 ps ≡ false
+row_once p [] rise = refl
+row_once p (q ∷ qs) rise = row_above p.0 q qs rise.1 rise.0
+
+pub rise_rest : (p : RowChange) (ps : List RowChange) → RowsRise (p ∷ ps) → RowsRise ps
+rise_rest p [] rise = tt
+rise_rest p (q ∷ qs) rise = rise.1
+
+after_none : (ps : List RowChange) (row : RowId) (image : Option RowImage) → has_row row ps ≡ false → image_after ps row image ≡ image
+after_none [] row image h = refl
+after_none (p ∷ ps) row image h =
+    let both = or_false (row_eq row p.0) (has_row row ps) h in
+    ap (λ b. image_after ps row (cond b (image_of p.1) image)) both.0 ∙ after_none ps row image both.1
+
+after_append : (ps qs : List RowChange) (row : RowId) (image : Option RowImage) →
+    image_after (ps ++ qs) row image ≡ image_after qs row (image_after ps row image)
+after_append [] qs row image = refl
+after_append (p ∷ ps) qs row image = after_append ps qs row (cond (row_eq row p.0) (image_of p.1) image)
+
+after_written : (ps : List RowChange) (row : RowId) (change : Change) (image : Option RowImage) → RowsRise ps → Contains ps (row, change) →
+    image_after ps row image ≡ image_of change
+after_written [] row change image rise h = absurd (among_none (row, change) h)
+after_written (p ∷ ps) row change image rise h =
+    ⊎_elim
+    (λ same.
+    let at : p.0 ≡ row = ap (λ (q : RowChange). q.0) same in
+    let is : row_eq row p.0 ≡ true = subst (λ r. row_eq r p.0 ≡ true) at (row_eq_equiv.refl p.0) in
+    let once : has_row row ps ≡ false = subst (λ r. has_row r ps ≡ false) at (row_once p ps rise) in
+    ap (λ b. image_after ps row (cond b (image_of p.1) image)) is
+    ∙ after_none ps row (image_of p.1) once ∙ ap (λ (q : RowChange). image_of q.1) same)
+    (after_written ps row change (cond (row_eq row p.0) (image_of p.1) image) (rise_rest p ps rise))
+    (among_cases p ps (row, change) h)
+
+-- ---- the changes of several candidates
+
+after_untouched : (cs : List Placed) (row : RowId) (image : Option RowImage) →
+    ((c : Placed) → Contains cs c → has_row row c.set ≡ false) → image_after (changes_of cs) row image ≡ image
+after_untouched [] row image h = refl
+after_untouched (c ∷ cs) row image h =
+    after_append c.set (changes_of cs) row image
+    ∙ ap (image_after (changes_of cs) row) (after_none c.set row image (h c (among_first c cs)))
+    ∙ after_untouched cs row image (λ d later. h d (among_later c d cs later))
+
+-- each of the candidates that has the row leaves this image
+abbrev Leave : List Placed → RowId → Option RowImage → Type 0
+Leave cs row left = (c : Placed) → Contains cs c → has_row row c.set ≡ true → (image : Option RowImage) → image_after c.set row image ≡ left
+
+after_left : (cs : List Placed) (row : RowId) (left : Option RowImage) → Leave cs row left → image_after (changes_of cs) row left ≡ left
+after_left [] row left h = refl
+after_left (c ∷ cs) row left h =
+    let here = ⊎_elim (λ t. h c (among_first c cs) t left) (after_none c.set row left) (true_or_false (has_row row c.set)) in
+    after_append c.set (changes_of cs) row left
+    ∙ ap (image_after (changes_of cs) row) here
+    ∙ after_left cs row left (λ d later. h d (among_later c d cs later))
+
+after_set : (cs : List Placed) (c : Placed) (row : RowId) (left image : Option RowImage) → Leave cs row left →
+    Contains cs c → has_row row c.set ≡ true → image_after (changes_of cs) row image ≡ left
+after_set [] c row left image h among has = absurd (among_none c among)
+after_set (d ∷ ds) c row left image h among has =
+    after_append d.set (changes_of ds) row image
+    ∙ ⊎_elim
+    (λ same.
+    let here = h d (among_first d ds) (subst (λ x. has_row row x.set ≡ true) (sym same) has) image in
+    ap (image_after (changes_of ds) row) here ∙ after_left ds row left rest)
+    (λ later. after_set ds c row left (image_after d.set row image) rest later has)
+    (among_cases d ds c among)
+  where
+    rest : Leave ds row left
+    rest x later = h x (among_later d x ds later)
+
+-- ---- the snapshots
+
+applies : (journal : Journal) (epoch : ℕ) → IsJournal journal → suc epoch ≤ last_sealed journal → AppliesEpoch journal epoch
+applies journal epoch lawful sealed = record {
+  written = λ c row change commits has.
+      let isset = (committed_lawful journal epoch c lawful sealed commits.among).lawful in
+      let left = λ (image : Option RowImage). after_written c.set row change image isset.rising has in
+      let has_it : has_row row c.set ≡ true = row_among (row, change) c.set has in
+      after_set now c row (image_of change) (snap_at (epochs_of journal epoch) row)
+      (λ d among rd image. subst (λ x. image_after x.set row image ≡ image_of change)
+      (committed_same journal epoch c d row lawful sealed commits.among among has_it rd) (left image))
+      commits.among has_it;
+  kept = λ row none.
+      after_untouched now row (snap_at (epochs_of journal epoch) row) (λ c among. none c (record { sealed = sealed; among = among }));
+}
+  where
+    now : List Placed
+    now = committed (epochs_of journal (suc epoch))
+
+-- ---- overlapping transactions
+
+-- the last change of a row is no earlier than any epoch in which one that commits has the row
+pub changed_since : (journal : Journal) (e n : ℕ) (c : Placed) (row : RowId) → e ≤ n → Contains (committed (epochs_of journal e)) c → has_row row c.set ≡ true →
+    e ≤ last_change (epochs_of journal n) row
+changed_since journal e zero c row below among has = below
+changed_since journal e (suc n) c row below among has =
+    by (list_any (λ x. has_row row x.set) (committed (epochs_of journal (suc n)))) refl
+    (λ earlier. changed_since journal e n c row earlier among has)
+  where
+    at : e ≡ suc n → list_any (λ x. has_row row x.set) (committed (epochs_of journal (suc n))) ≡ true
+    at same = any_among (λ x. has_row row x.set) (committed (epochs_of journal (suc n))) c (subst (λ k. Contains (committed (epochs_of journal k)) c) same among) has
+
+    by : (b : Bool) → list_any (λ x. has_row row x.set) (committed (epochs_of journal (suc n))) ≡ b →
+        (e ≤ n → e ≤ last_change (epochs_of journal n) row) →
+        e ≤ cond b (length (epochs_of journal n) + 1) (last_change (epochs_of journal n) row)
+    by true is rest = omega (arith, length_epochs journal n)
+    by false is rest = ⊎_elim (λ less. rest (omega arith)) (λ more. absurd (false≢true (sym is ∙ at (omega arith)))) (cases_lt e (suc n))
+
+-- a candidate that commits starts no earlier than the last change of each of its rows
+changed_before : (journal : Journal) (n : ℕ) (d : Placed) (row : RowId) → Contains (committed (epochs_of journal (suc n))) d → has_row row d.set ≡ true →
+    last_change (epochs_of journal n) row ≤ d.start
+changed_before journal n d row among has =
+    let older = epochs_of journal n in
+    let all = candidates_of (batches_at journal n) in
+    let parts = filtered_among (λ x. is_committed (verdict_of (last_change older) (length older + 1) all x)) all d among in
+    fresh_bound (last_change older) d row
+    (fresh_unchanged (last_change older) d (committed_is (last_change older) all (length older + 1) d parts.1).0) has
+
+later_starts : (journal : Journal) (e f : ℕ) (c d : Placed) (row : RowId) → e < f → Contains (committed (epochs_of journal e)) c →
+    Contains (committed (epochs_of journal f)) d → has_row row c.set ≡ true → has_row row d.set ≡ true → e ≤ d.start
+later_starts journal e zero c d row less hc hd rc rd = absurd (among_none d hd)
+later_starts journal e (suc n) c d row less hc hd rc rd =
+    let since = changed_since journal e n c row (omega arith) hc rc in
+    let before = changed_before journal n d row hd rd in
+    omega (arith, since, before)
+
+same_epoch : (journal : Journal) (e : ℕ) (c d : Placed) (row : RowId) → IsJournal journal → e ≤ last_sealed journal →
+    Contains (committed (epochs_of journal e)) c → Contains (committed (epochs_of journal e)) d → has_row row c.set ≡ true → has_row row d.set ≡ true → c ≡ d
+same_epoch journal zero c d row lawful sealed hc hd rc rd = absurd (among_none c hc)
+same_epoch journal (suc n) c d row lawful sealed hc hd rc rd = committed_same journal n c d row lawful sealed hc hd rc rd
+
+pub commit_once : (journal : Journal) (epoch : ℕ) (c d : Placed) (row : RowId) → IsJournal journal → Commits journal epoch c → Commits journal epoch d →
+    has_row row c.set ≡ true → has_row row d.set ≡ true → c ≡ d
+commit_once journal epoch c d row lawful hc hd rc rd = same_epoch journal epoch c d row lawful hc.sealed hc.among hd.among rc rd
+
+starts_before : (journal : Journal) (epoch : ℕ) (c : Placed) → IsJournal journal → Commits journal epoch c → c.start < epoch
+starts_before journal zero c lawful commits = absurd (among_none c commits.among)
+starts_before journal (suc n) c lawful commits =
+    let placed = committed_lawful journal n c lawful commits.sealed commits.among in
+    omega (arith, placed.earlier)
+
+apart_level : (journal : Journal) → IsJournal journal → (e f : ℕ) (c d : Placed) (row : RowId) → e ≡ f → Commits journal e c → Commits journal f d →
+    has_row row c.set ≡ true → has_row row d.set ≡ true → AreApart e c f d
+apart_level journal lawful e f c d row same hc hd rc rd =
+    let among : Contains (committed (epochs_of journal e)) d = subst (λ k. Contains (committed (epochs_of journal k)) d) (sym same) hd.among in
+    inl (same, same_epoch journal e c d row lawful hc.sealed hc.among among rc rd)
+
+apart : (journal : Journal) → IsJournal journal → (e f : ℕ) (c d : Placed) (row : RowId) → Commits journal e c → Commits journal f d →
+    has_row row c.set ≡ true → has_row row d.set ≡ true → AreApart e c f d
+apart journal lawful e f c d row hc hd rc rd =
+    ⊎_elim
+    (λ less. inr (inl (later_starts journal e f c d row less hc.among hd.among rc rd)))
+    (λ upto. ⊎_elim
+    (λ more. inr (inr (later_starts journal f e d c row more hd.among hc.among rd rc)))
+    (λ level. apart_level journal lawful e f c d row (omega arith) hc hd rc rd)
+    (cases_lt f e))
+    (cases_lt e f)
+
+pub is_isolated : (journal : Journal) → IsJournal journal → IsSnapshotIsolated journal
+is_isolated journal lawful = record {
+  starts = λ epoch c commits. starts_before journal epoch c lawful commits;
+  applies = λ epoch sealed. applies journal epoch lawful sealed;
+  apart = apart journal lawful;
+}

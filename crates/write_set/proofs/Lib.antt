@@ -1,0 +1,12 @@
+pub mod Places
+pub mod Among
+pub mod Deciding
+pub mod Isolating
+pub mod Placing
+pub mod Rivals
+pub mod Sealing
+pub mod Tables
+pub mod Lists
+pub mod Judging
+pub mod Rising
+pub mod Merging

@@ -1,0 +1,161 @@
+-- The merge of one more epoch: the program's words say what the definitions do.
+use Rattle.std.proofs.Common.{◌≡◌, ℕ, ◌+◌, ◌≤◌, Bool, true, false, ◌&&◌, ◌||◌, not, Option, None, Some, List, [], ◌∷◌, length, map, if◌then◌else◌, All, refl, ap, ◌∙◌, arith}
+use Rattle.std.specs.List.{filter, find, list_any}
+use Rattle.std.specs.Map.{keys_of, lookup}
+use Rattle.std.specs.BTreeMap.{insert_entry, is_at}
+use Rattle.std.specs.Option.{option_map, unwrap_or}
+use Rattle.std.specs.Ordering.{match_ordering, is_eq}
+use Rattle.std.specs.declared.cmp.Ordering.{Ordering}
+use Rattle.std.specs.declared.cmp.Ordering.TheVariants.{Less, Equal, Greater}
+use Rattle.std.proofs.lemmas.List.Elements.{All-cons}
+use Rattle.std.proofs.lemmas.List.Folds.{list_any-append}
+use Rattle.geo_base.specs.declared.limits.TheConstants.{MAX_CANDIDATES}
+use Rattle.geo_base.specs.declared.outcome.Outcome.TheVariants.{Beaten}
+use Rattle.geo_base.specs.declared.row_id.RowId.{RowId}
+use Rattle.geo_base.specs.Order.{row_cmp, row_eq}
+use Rattle.geo_base.specs.OrderLaws.{row_cmp_total, same_row}
+use Rattle.write_set.specs.declared.batch.Batch.{Batch}
+use Rattle.write_set.specs.declared.entrant.Entrant.{Entrant}
+use Rattle.write_set.specs.Sets.{RowChange, has_row}
+use Rattle.write_set.specs.Journal.{Placed, Epochs, AreBatches}
+use Rattle.write_set.specs.Merge.{wins, id_of, is_fresh, contenders, is_beaten_on, winner_of, first_changed, first_beaten, changed_or, beaten_or_committed, verdict_of, committed, last_change, verdicts}
+use Rattle.write_set.specs.Snapshot.{changes_of, overlay}
+use Rattle.write_set.specs.Entrants.{placed, fresh_of, loses_row, keeper_of, first_lost, lost_or_committed, outcome_of, writes_of}
+use Rattle.write_set.specs.Plain.{Merged, IsMergeOf, last_in, noted}
+
+-- ---- lists
+
+filter_twice : {X : Type 0} (p q : X → Bool) (xs : List X) → filter q (filter p xs) ≡ filter (λ x. p x && q x) xs
+filter_twice p q [] = refl
+filter_twice p q (x ∷ xs) = grind (arith, filter_twice p q xs)
+
+any_taking : (row : RowId) (c : Placed) (es : List Entrant) → loses_row es c row ≡ list_any (λ d. wins d c) (filter (λ d. has_row row d.set) (map placed es))
+any_taking row c [] = refl
+any_taking row c (e ∷ es) = grind (arith, any_taking row c es)
+
+find_having : (test : Placed → Bool) (row : RowId) (es : List Entrant) → option_map placed (find (λ e. has_row row e.candidate.now.set && test (placed e)) es) ≡ find test (filter (λ d. has_row row d.set) (map placed es))
+find_having test row [] = refl
+find_having test row (e ∷ es) = grind (arith, find_having test row es)
+
+-- batches that are lawful have few candidates
+pub few_candidates : (region epoch : ℕ) (bs : List Batch) → AreBatches region epoch bs → All (λ b. length b.items ≤ MAX_CANDIDATES) bs
+few_candidates region epoch [] lawful = λ k d within. absurd (omega arith)
+few_candidates region epoch (b ∷ bs) lawful = All-cons (λ b. length b.items ≤ MAX_CANDIDATES) b bs lawful.0.few (few_candidates (region + 1) epoch bs lawful.1)
+
+-- ---- verdicts over the fresh candidates
+
+module _ (last : RowId → ℕ) (epoch : ℕ) (all : List Placed) (fresh : List Entrant) (fresh_is : map placed fresh ≡ fresh_of last all) where
+  having_is : (row : RowId) → filter (λ d. has_row row d.set) (map placed fresh) ≡ contenders last all row
+  having_is row = ap (filter (λ d. has_row row d.set)) fresh_is ∙ filter_twice (is_fresh last) (λ d. has_row row d.set) all
+
+  loses_is : (c : Placed) (row : RowId) → loses_row fresh c row ≡ is_beaten_on last all c row
+  loses_is c row = any_taking row c fresh ∙ ap (list_any (λ d. wins d c)) (having_is row)
+
+  keeper_is : (row : RowId) → option_map placed (keeper_of fresh row) ≡ winner_of last all row
+  keeper_is row = find_having (λ d. not (loses_row fresh d row)) row fresh ∙ (λ i. find (λ d. not (loses_is d row i)) (having_is row i))
+
+  lost_is : (c : Placed) (p : Option RowChange) → lost_or_committed epoch fresh c p ≡ beaten_or_committed last epoch all c p
+  lost_is c None = refl
+  lost_is c (Some p) = ap (λ w. Beaten p.0 (id_of epoch (unwrap_or w c))) (keeper_is p.0)
+
+  first_is : (c : Placed) → first_lost fresh c ≡ first_beaten last all c
+  first_is c i = find (λ p. loses_is c p.0 i) c.set
+
+  outcome_is : (c : Placed) → outcome_of last epoch fresh c ≡ verdict_of last epoch all c
+  outcome_is c = ap (λ o. changed_or last o (first_changed last c)) (lost_is c (first_lost fresh c) ∙ ap (beaten_or_committed last epoch all c) (first_is c))
+
+-- ---- the last changes, with an epoch at more rows
+
+put_apart : (a b : Bool) (v x o : Option ℕ) → (a ≡ true → b ≡ true → ⊥) → (if b then x else (if a then v else o)) ≡ (if a then v else (if b then x else o))
+put_apart true true v x o apart = absurd (apart refl refl)
+put_apart true false v x o apart = refl
+put_apart false true v x o apart = refl
+put_apart false false v x o apart = refl
+
+put_over : (a : Bool) (v x o : Option ℕ) → (if a then v else o) ≡ (if a then v else (if a then x else o))
+put_over true v x o = refl
+put_over false v x o = refl
+
+is_Equal : (o : Ordering) → is_eq o ≡ true → o ≡ Equal
+is_Equal Less h = cc
+is_Equal Equal h = refl
+is_Equal Greater h = cc
+
+lookup_put : (q row : RowId) (v : ℕ) (l : List (RowId × ℕ)) → lookup (is_at (row_cmp q)) (insert_entry row_cmp l row v) ≡ (if is_at (row_cmp q) row then Some v else lookup (is_at (row_cmp q)) l)
+lookup_put q row v [] = refl
+lookup_put q row v (x ∷ l) = at (row_cmp row x.0) refl (lookup_put q row v l)
+  where
+    test : RowId → Bool
+    test = is_at (row_cmp q)
+
+    at : (o : Ordering) → row_cmp row x.0 ≡ o → lookup (is_at (row_cmp q)) (insert_entry row_cmp l row v) ≡ (if is_at (row_cmp q) row then Some v else lookup (is_at (row_cmp q)) l) → lookup (is_at (row_cmp q)) (match_ordering (row_cmp row x.0) ((row, v) ∷ x ∷ l) ((x.0, v) ∷ l) (x ∷ insert_entry row_cmp l row v)) ≡ (if is_at (row_cmp q) row then Some v else lookup (is_at (row_cmp q)) (x ∷ l))
+    at Less e more = rw e refl
+    at Equal e more = rw (e, same_row row x.0 e) (put_over (is_at (row_cmp q) x.0) (Some v) (Some x.1) (lookup (is_at (row_cmp q)) l))
+    at Greater e more =
+        rw (e, more)
+        (put_apart (is_at (row_cmp q) row) (is_at (row_cmp q) x.0) (Some v) (Some x.1) (lookup (is_at (row_cmp q)) l)
+        (λ a b.
+        let first : row_cmp q row ≡ Equal = is_Equal (row_cmp q row) a in
+        let second : row_cmp q x.0 ≡ Equal = is_Equal (row_cmp q x.0) b in
+        let both : row_cmp q x.0 ≡ row_cmp row x.0 = row_cmp_total.congr q row x.0 first in
+        cc))
+
+value_or : (b : Bool) (v : ℕ) (o : Option ℕ) → unwrap_or (if b then Some v else o) 0 ≡ (if b then v else unwrap_or o 0)
+value_or true v o = refl
+value_or false v o = refl
+
+last_put : (q row : RowId) (v : ℕ) (l : List (RowId × ℕ)) → last_in (insert_entry row_cmp l row v) q ≡ (if row_eq q row then v else last_in l q)
+unfolding row_eq
+last_put q row v l = ap (λ o. unwrap_or o 0) (lookup_put q row v l) ∙ value_or (is_at (row_cmp q) row) v (lookup (is_at (row_cmp q)) l)
+
+put_twice : (a b : Bool) (v x : ℕ) → (if a then v else (if b then v else x)) ≡ (if b || a then v else x)
+put_twice true true v x = refl
+put_twice true false v x = refl
+put_twice false true v x = refl
+put_twice false false v x = refl
+
+last_noted : (q : RowId) (epoch : ℕ) (l : List (RowId × ℕ)) (rows : List RowId) → last_in (noted epoch l rows) q ≡ (if list_any (row_eq q) rows then epoch else last_in l q)
+last_noted q epoch l [] = refl
+last_noted q epoch l (row ∷ rows) =
+    last_noted q epoch (insert_entry row_cmp l row epoch) rows
+    ∙ ap (λ x. if list_any (row_eq q) rows then epoch else x) (last_put q row epoch l)
+    ∙ put_twice (list_any (row_eq q) rows) (row_eq q row) epoch (last_in l q)
+
+any_key : (q : RowId) (set : List RowChange) → list_any (row_eq q) (keys_of set) ≡ has_row q set
+any_key q [] = refl
+any_key q (p ∷ ps) = ap (λ b. row_eq q p.0 || b) (any_key q ps)
+
+any_write : (q : RowId) (cs : List Placed) → has_row q (changes_of cs) ≡ list_any (λ c. has_row q c.set) cs
+any_write q [] = refl
+any_write q (c ∷ cs) = list_any-append (λ p. row_eq q p.0) c.set (changes_of cs) ∙ ap (λ b. has_row q c.set || b) (any_write q cs)
+
+-- ---- one more epoch
+
+module _ (epochs : Epochs) (old : Merged) (merge : IsMergeOf epochs old) (all : List Placed) (fresh : List Entrant) (fresh_is : map placed fresh ≡ fresh_of (last_in old.changes) all) where
+  outcomes_are : outcome_of (last_in old.changes) (old.epoch + 1) fresh ≡ verdict_of (last_change epochs) (length epochs + 1) all
+  outcomes_are =
+      let judged : outcome_of (last_in old.changes) (old.epoch + 1) fresh ≡ verdict_of (last_in old.changes) (old.epoch + 1) all = λ i c. outcome_is (last_in old.changes) (old.epoch + 1) all fresh fresh_is c i in
+      judged ∙ (λ i. verdict_of (λ row. merge.last row i) (merge.count i + 1) all)
+
+  -- the outcomes are the verdicts of the newest epoch
+  pub verdicts_are : map (outcome_of (last_in old.changes) (old.epoch + 1) fresh) all ≡ verdicts (all ∷ epochs)
+  verdicts_are i = map (outcomes_are i) all
+
+  writes_are : writes_of (outcome_of (last_in old.changes) (old.epoch + 1) fresh) all ≡ changes_of (committed (all ∷ epochs))
+  writes_are i = writes_of (outcomes_are i) all
+
+  module _ (new : Merged) (writes : List RowChange) (writes_is : writes ≡ writes_of (outcome_of (last_in old.changes) (old.epoch + 1) fresh) all) where
+    newest_changes : new.changes ≡ noted (old.epoch + 1) old.changes (keys_of writes) → (row : RowId) → last_in new.changes row ≡ last_change (all ∷ epochs) row
+    newest_changes changes row =
+        ap (λ l. last_in l row) changes
+        ∙ last_noted row (old.epoch + 1) old.changes (keys_of writes)
+        ∙ ap (λ b. if b then old.epoch + 1 else last_in old.changes row) (any_key row writes ∙ ap (has_row row) (writes_is ∙ writes_are) ∙ any_write row (committed (all ∷ epochs)))
+        ∙ (λ i. if list_any (λ c. has_row row c.set) (committed (all ∷ epochs)) then merge.count i + 1 else merge.last row i)
+
+    -- the writes laid over the rows, and their rows noted, are the merge of one epoch more
+    pub merged : new.epoch ≡ old.epoch + 1 → new.rows ≡ overlay old.rows writes → new.changes ≡ noted (old.epoch + 1) old.changes (keys_of writes) → IsMergeOf (all ∷ epochs) new
+    merged epoch rows changes = record {
+      count = omega (arith, epoch, merge.count);
+      table = rows ∙ (λ i. overlay (merge.table i) ((writes_is ∙ writes_are) i));
+      last = newest_changes changes;
+    }

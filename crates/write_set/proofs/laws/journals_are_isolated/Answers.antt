@@ -1,0 +1,5 @@
+use Rattle.write_set.proofs.Isolating.{is_isolated}
+use Rattle.write_set.proofs.laws.journals_are_isolated.Goals as goal
+
+pub returns : goal.returns
+returns c = is_isolated

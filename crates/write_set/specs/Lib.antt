@@ -1,0 +1,10 @@
+pub mod Sets
+pub mod Journal
+pub mod Merge
+pub mod Snapshot
+pub mod Isolation
+pub mod Sizes
+pub mod Plain
+pub mod Places
+pub mod Entrants
+pub mod Rules

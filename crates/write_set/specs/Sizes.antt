@@ -1,0 +1,27 @@
+-- How many bytes the spelling of a batch has.
+use Rattle.std.specs.Prelude.{ℕ, ◌+◌, List, length, sum_by}
+use Rattle.geo_base.specs.declared.cell.Cell.{Cell}
+use Rattle.geo_base.specs.declared.cell.Cell.TheVariants as cell
+use Rattle.write_set.specs.declared.change.Change.TheVariants.{Put, Remove}
+use Rattle.write_set.specs.declared.candidate.Candidate.{Candidate}
+use Rattle.write_set.specs.Sets.{RowChange}
+
+-- a tag, and the bytes of a number or those of a text behind their count
+abbrev pub cell_size : Cell → ℕ
+cell_size cell.Null = 1
+cell_size (cell.Int _) = 9
+cell_size (cell.Text text) = 3 + length text
+cell_size (cell.Truth _) = 1
+
+-- the table, the kind of change, and the cells of the row or of its key alone
+abbrev pub change_size : RowChange → ℕ
+change_size (row, Put image) = 2 + sum_by cell_size image
+change_size (row, Remove) = 2 + sum_by cell_size row.key
+
+-- the start, the number of rows, and the changes
+abbrev pub candidate_size : Candidate → ℕ
+candidate_size c = 8 + sum_by change_size c.set
+
+-- the mark, the region, the epoch, the number of candidates, and the candidates
+abbrev pub batch_size : List Candidate → ℕ
+batch_size items = 13 + sum_by candidate_size items

@@ -1,0 +1,75 @@
+//! The laws of every journal, each the contract of a function that does nothing.
+ghost use Rattle.std.specs.Prelude.{◌≡◌, ℕ, ◌+◌, ◌<◌, ◌≤◌, ◌↔◌, true, false, List, Contains};
+ghost use Rattle.std.specs.List.Sorted.{IsStrictlySortedBy};
+ghost use Rattle.std.specs.Map.{keys_of};
+ghost use Rattle.geo_base.specs.declared.row_id.RowId.{RowId};
+ghost use Rattle.geo_base.specs.declared.numbers.CandId.{CandId};
+ghost use Rattle.geo_base.specs.declared.outcome.Outcome.{Outcome};
+ghost use Rattle.geo_base.specs.declared.outcome.Outcome.TheVariants.{Beaten};
+ghost use Rattle.geo_base.specs.Order.{row_cmp};
+ghost use Rattle.write_set.specs.Sets.{RowsRise, has_row};
+ghost use Rattle.write_set.specs.Journal.{Journal, Epochs, Placed, IsJournal, batches_at, candidates_of, epochs_of, last_sealed, Extends};
+ghost use Rattle.write_set.specs.Merge.{contenders, id_of, is_beaten_on, last_change, verdict_of, verdicts};
+ghost use Rattle.write_set.specs.Snapshot.{image_in, snap_at, snap_rows};
+ghost use Rattle.write_set.specs.Isolation.{Commits, IsSnapshotIsolated};
+ghost use Rattle.write_set.specs.Rules.{IsLastChange, IsVerdict};
+
+/// Two candidates of one epoch that commit and have a row in common are one.
+pub fn committed_share_no_row()
+    ensures { (journal : Journal) (epoch : ℕ) (c d : Placed) (row : RowId) → IsJournal journal →
+        Commits journal epoch c → Commits journal epoch d →
+        has_row row c.set ≡ true → has_row row d.set ≡ true → c ≡ d }
+{}
+
+/// The epochs that all regions have sealed, and so their verdicts and snapshots, stay when regions seal more.
+pub fn sealed_epochs_stay()
+    ensures epochs { (older newer : Journal) (epoch : ℕ) → Extends older newer → epoch ≤ last_sealed older →
+        epochs_of newer epoch ≡ epochs_of older epoch }
+    ensures verdicts { (older newer : Journal) (epoch : ℕ) → Extends older newer → epoch ≤ last_sealed older →
+        verdicts (epochs_of newer epoch) ≡ verdicts (epochs_of older epoch) }
+    ensures snapshots { (older newer : Journal) (epoch : ℕ) → Extends older newer → epoch ≤ last_sealed older →
+        ((row : RowId) → snap_at (epochs_of newer epoch) row ≡ snap_at (epochs_of older epoch) row)
+        × (snap_rows (epochs_of newer epoch) ≡ snap_rows (epochs_of older epoch)) }
+    ensures sealed { (older newer : Journal) → Extends older newer → last_sealed older ≤ last_sealed newer }
+{}
+
+/// The committed transactions of every journal are a snapshot-isolated history.
+pub fn journals_are_isolated()
+    ensures { (journal : Journal) → IsJournal journal → IsSnapshotIsolated journal }
+{}
+
+/// The list of a snapshot's rows rises, and a look-up in it answers as the snapshot does.
+pub fn rows_are_the_snapshot()
+    ensures rising { (epochs : Epochs) → IsStrictlySortedBy row_cmp (keys_of (snap_rows epochs)) }
+    ensures images { (epochs : Epochs) (row : RowId) → image_in (snap_rows epochs) row ≡ snap_at epochs row }
+{}
+
+/// A verdict that names a winner names a fresh candidate that has the row and that no other such one beats.
+pub fn winner_is_unbeaten()
+    ensures { (last : RowId → ℕ) (epoch : ℕ) (all : List Placed) (c : Placed) (row : RowId) (id : CandId) →
+        verdict_of last epoch all c ≡ Beaten row id →
+        (w : Placed) × Contains (contenders last all row) w × (id ≡ id_of epoch w) × (is_beaten_on last all w row ≡ false) }
+{}
+
+/// A verdict is the one that the rules allow: committed where the candidate is fresh and no contender beats
+/// it on a row; changed on its least row that was changed after its start; beaten on the least row where a
+/// contender beats it, by the one that none beats.
+pub fn verdicts_are_by_the_rules()
+    ensures rules { (last : RowId → ℕ) (epoch : ℕ) (all : List Placed) (c : Placed) (outcome : Outcome) → RowsRise c.set →
+        (verdict_of last epoch all c ≡ outcome) ↔ IsVerdict last epoch all c outcome }
+    ensures rising { (journal : Journal) (place : ℕ) (c : Placed) → IsJournal journal → place < last_sealed journal →
+        Contains (candidates_of (batches_at journal place)) c → RowsRise c.set }
+{}
+
+/// A name stands for one candidate of its epoch alone.
+pub fn names_are_of_one_candidate()
+    ensures { (journal : Journal) (place : ℕ) (c d : Placed) → IsJournal journal → place < last_sealed journal →
+        Contains (candidates_of (batches_at journal place)) c → Contains (candidates_of (batches_at journal place)) d →
+        id_of (place + 1) c ≡ id_of (place + 1) d → c ≡ d }
+{}
+
+/// The last change of a row, up to an epoch, is the last epoch in which a candidate that commits has it.
+pub fn last_changes_are_last()
+    ensures { (journal : Journal) (upto : ℕ) (row : RowId) →
+        IsLastChange journal upto row (last_change (epochs_of journal upto) row) }
+{}

@@ -1,0 +1,31 @@
+//! Write sets, the batches that regions seal of them, and the plain merge.
+//!
+//! The definitions of `specs/` say, of every journal of batches, which candidates commit and what each
+//! epoch's snapshot is: pairwise, over lists. [`Plain`] is the program that merges one epoch a step and
+//! answers just those verdicts and rows. A copy of a write set, a candidate or a batch equals it. The
+//! functions of `laws` have the laws of every journal as their contracts.
+#![tactic(auto)]
+
+mod batch;
+mod candidate;
+mod change;
+mod entrant;
+mod laws;
+mod plain;
+mod set;
+mod table;
+#[cfg(test)]
+mod tests;
+mod verdicts;
+mod writes;
+
+pub use batch::Batch;
+pub use candidate::{Candidate, CandidateList};
+pub use change::Change;
+pub use laws::{
+    committed_share_no_row, journals_are_isolated, last_changes_are_last,
+    names_are_of_one_candidate, rows_are_the_snapshot, sealed_epochs_stay,
+    verdicts_are_by_the_rules, winner_is_unbeaten,
+};
+pub use plain::Plain;
+pub use set::WriteSet;
