@@ -1,0 +1,39 @@
+-- A packet's batch is known, or comes to its region.
+use Rattle.std.proofs.Common.{◌≡◌, ◌<◌, ◌||◌, Bool, true, false, refl, sym, ap, subst, ◌∙◌, slice_get, Some, length, nat_le, is_some}
+use Rattle.std.proofs.lemmas.Result.{on_ok_weaker}
+use Rattle.write_set.specs.declared.batch.Batch.{Batch}
+use Rattle.geo_world.specs.declared.region.Region.{Region}
+use Rattle.geo_world.specs.Arrivals.{batch_in}
+use Rattle.geo_world.specs.Regions.{Receives}
+use Rattle.geo_world.proofs.Asking.{region-stands, read-same}
+use Rattle.geo_world.proofs.Delivering.{packet-there, somewhere, known-makes, new-makes}
+use Rattle.geo_world.proofs.world.World.deliver_one.Goals as goal
+
+pub returns-then-knows-clause-step : goal.returns-then-knows-clause-step
+returns-then-knows-clause-step c = λ w s.
+    let k = c.args.self.now in
+    let p = c.in-Some.found.now in
+    let at : slice_get k.packets.items c.args.packet ≡ Some p =
+    packet-there k c.deref.result.now c.args.packet p c.deref.ensures.value c.in-Some.ensures.lookup.3.0 c.in-Some.ensures.lookup.1 in
+    on_ok_weaker c.print_packet_known.result
+    (known-makes w k c.args.packet p c.index.result.now _ _ s at
+    (region-stands w k p.to c.index.result.now s (somewhere w k c.args.packet p s at) c.index.ensures) (sym c.if-knows.ensures))
+    c.print_packet_known.ensures
+
+pub returns-clause-step : goal.returns-clause-step
+returns-clause-step c = λ w s.
+    let k = c.args.self.now in
+    let p = c.in-Some.found.now in
+    let at : slice_get k.packets.items c.args.packet ≡ Some p =
+    packet-there k c.deref.result.now c.args.packet p c.deref.ensures.value c.in-Some.ensures.lookup.3.0 c.in-Some.ensures.lookup.1 in
+    let there = somewhere w k c.args.packet p s at in
+    let old : c.index.result.now ≡ c.index_mut.result.now = read-same k p.to c.index.result.now c.index_mut.result.now there c.index.ensures c.index_mut.ensures.value in
+    let unknown : (nat_le p.batch.epoch c.index_mut.result.now.merging.plain.epoch || is_some (batch_in c.index_mut.result.now.inbox p.batch.region p.batch.epoch)) ≡ false =
+    subst (λ (r : Region). (nat_le p.batch.epoch r.merging.plain.epoch || is_some (batch_in r.inbox p.batch.region p.batch.epoch)) ≡ false) old (sym c.if-knows.ensures) in
+    let receives : Receives p.batch c.index_mut.result.now c.receive.new.self =
+    subst (λ (b : Batch). Receives b c.index_mut.result.now c.receive.new.self) c.in_ok-batch.ensures c.in_ok-receive.ensures in
+    on_ok_weaker c.print_packet_new.result
+    (new-makes w k _ c.args.packet p c.index_mut.result.now c.receive.new.self _ _ s at
+    (region-stands w k p.to c.index_mut.result.now s there c.index_mut.ensures.value) unknown receives
+    (record { last = refl; regions = refl; within = subst (λ n. p.to < n) k.regions.ok.0 there }) refl)
+    c.print_packet_new.ensures

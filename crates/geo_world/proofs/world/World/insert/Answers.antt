@@ -1,0 +1,37 @@
+-- An insert is refused where its row is there, and else taken.
+use Rattle.std.proofs.Common.{◌≡◌, ◌<◌, ℤ, Bool, true, false, refl, sym, ap, ap₂, subst, ◌∙◌, is_some, to_z-of_z, w64, length, arith, vec_len}
+use Rattle.std.proofs.lemmas.Result.{on_ok_weaker}
+use Rattle.write_set.specs.Snapshot.{image_in}
+use Rattle.write_set.specs.declared.candidate.Candidate.{Candidate}
+use Rattle.geo_world.specs.declared.region.Region.{Region}
+use Rattle.geo_world.specs.Step.{kv_row, put_candidate}
+use Rattle.geo_world.specs.Regions.{Takes}
+use Rattle.geo_world.proofs.Asking.{region-read, region-stands, read-same, duplicate-makes, insert-makes}
+use Rattle.geo_world.proofs.world.World.insert.Goals as goal
+
+pub returns-then-has_row-clause-step : goal.returns-then-has_row-clause-step
+returns-then-has_row-clause-step c = λ w s idle. on_ok_weaker c.print_duplicate.result
+    (duplicate-makes w c.args.self.now c.args.number c.args.session c.args.key c.args.value c.index-region.result.now c.in_ok-row.row _ _ s
+    (region-stands w c.args.self.now c.args.number c.index-region.result.now s c.requires.region c.index-region.ensures)
+    (c.in_ok-row.ensures ∙ ap kv_row (to_z-of_z {w = w64} {z = c.args.key} c.ranges.key)) (sym c.if-has_row.ensures))
+    c.print_duplicate.ensures
+
+pub returns-clause-step : goal.returns-clause-step
+returns-clause-step c = λ w s idle.
+    let old : c.index-region.result.now ≡ c.index_mut.result.now =
+    read-same c.args.self.now c.args.number c.index-region.result.now c.index_mut.result.now c.requires.region c.index-region.ensures c.index_mut.ensures.value in
+    let put : c.in_ok-candidate.candidate ≡ put_candidate c.epoch-start.result c.args.key c.args.value =
+    c.in_ok-candidate.ensures ∙ ap₂ (λ (k v : ℤ). put_candidate c.epoch-start.result k v) (to_z-of_z {w = w64} {z = c.args.key} c.ranges.key) (to_z-of_z {w = w64} {z = c.args.value} c.ranges.value) in
+    let takes : Takes c.args.number c.args.session (put_candidate c.epoch-start.result c.args.key c.args.value) c.in_ok-ticket.ticket c.index_mut.result.now c.take.new.self =
+    subst (λ (x : Candidate). Takes c.args.number c.args.session x c.in_ok-ticket.ticket c.index_mut.result.now c.take.new.self) put c.in_ok-ticket.ensures in
+    let within : c.args.number < length c.args.self.now.regions.items =
+    subst (λ n. c.args.number < n) c.args.self.now.regions.ok.0 c.requires.region in
+    on_ok_weaker c.print_changed_one.result
+    (insert-makes w c.args.self.now _ c.args.number c.args.session c.epoch-start.result c.args.key c.args.value c.in_ok-ticket.ticket c.in_ok-row.row
+    c.index_mut.result.now c.take.new.self _ _ s c.requires.region c.requires.session idle
+    (region-read c.args.self.now c.args.number c.index_mut.result.now c.requires.region c.index_mut.ensures.value)
+    (c.in_ok-row.ensures ∙ ap kv_row (to_z-of_z {w = w64} {z = c.args.key} c.ranges.key))
+    (subst (λ (r : Region). is_some (image_in r.merging.plain.rows c.in_ok-row.row) ≡ false) old (sym c.if-has_row.ensures))
+    (c.epoch-start.ensures ∙ ap (λ (r : Region). r.merging.plain.epoch) old)
+    takes (record { last = refl; regions = refl; within = within }) refl)
+    c.print_changed_one.ensures

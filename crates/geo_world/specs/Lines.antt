@@ -1,0 +1,118 @@
+-- What the events print.
+use Rattle.std.specs.Prelude.{ℕ, ◌==◌, true, false, if◌then◌else◌, List, [], ◌∷◌, ◌++◌, length, codes}
+use Rattle.std.specs.List.{flat_map}
+use Rattle.std.specs.Fmt.{decimal, signed_decimal}
+use Rattle.geo_base.specs.declared.cell.Cell.{Cell}
+use Rattle.geo_base.specs.declared.cell.Cell.TheVariants.{Null, Int, Text, Truth}
+use Rattle.geo_base.specs.declared.numbers.CandId.{CandId}
+use Rattle.geo_base.specs.declared.row_id.RowId.{RowId}
+use Rattle.write_set.specs.Snapshot.{Table}
+
+-- the text of a line with its line feed
+abbrev pub line : List ℕ → List ℕ
+line text = text ++ (10 ∷ [])
+
+-- the text with each quote in it doubled
+abbrev pub doubled : List ℕ → List ℕ
+doubled text = flat_map (λ b. if b == 39 then 39 ∷ 39 ∷ [] else b ∷ []) text
+
+-- a text in quotes, with each quote in it doubled
+abbrev pub quoted : List ℕ → List ℕ
+quoted text = codes "'" ++ doubled text ++ codes "'"
+
+abbrev pub cell_text : Cell → List ℕ
+cell_text Null = codes "NULL"
+cell_text (Int number) = signed_decimal number
+cell_text (Text text) = quoted text
+cell_text (Truth true) = codes "TRUE"
+cell_text (Truth false) = codes "FALSE"
+
+-- the cells with a comma and a space between
+abbrev pub cells_text : List Cell → List ℕ
+cells_text [] = []
+cells_text (c ∷ []) = cell_text c
+cells_text (c ∷ d ∷ cells) = cell_text c ++ codes ", " ++ cells_text (d ∷ cells)
+
+abbrev pub row_text : List Cell → List ℕ
+row_text cells = codes "(" ++ cells_text cells ++ codes ")"
+
+-- a line for each row of the table
+abbrev pub rows_lines : Table → List ℕ
+rows_lines rows = flat_map (λ r. line (row_text r.1)) rows
+
+-- a row by the name of its table and its key
+abbrev pub row_name : RowId → List ℕ
+row_name row = codes "kv" ++ row_text row.key
+
+-- a candidate: its epoch, its region and its commit number
+abbrev pub id_text : CandId → List ℕ
+id_text id = decimal id.epoch ++ codes "." ++ decimal id.region ++ codes "." ++ decimal id.csn
+
+-- a session's line: its region and number, and what is said to it
+abbrev pub reply : ℕ → ℕ → List ℕ → List ℕ
+reply region session text = line (decimal region ++ codes "." ++ decimal session ++ codes " " ++ text)
+
+-- a region's line
+abbrev pub notice : ℕ → List ℕ → List ℕ
+notice region text = line (codes "region " ++ decimal region ++ codes " " ++ text)
+
+-- a packet's line
+abbrev pub news : ℕ → List ℕ → List ℕ
+news packet text = line (codes "packet " ++ decimal packet ++ codes " " ++ text)
+
+-- a packet was sent to a region
+unfoldable pub sent : ℕ → ℕ → List ℕ
+sent packet to = news packet (codes "to " ++ decimal to)
+
+unfoldable pub changed_one : ℕ → ℕ → CandId → List ℕ
+changed_one region session ticket = reply region session (codes "changed 1 ticket " ++ id_text ticket)
+
+unfoldable pub duplicate : ℕ → ℕ → RowId → List ℕ
+duplicate region session row = reply region session (codes "refused 30 Duplicate " ++ row_name row)
+
+unfoldable pub too_old : ℕ → ℕ → ℕ → ℕ → List ℕ
+too_old region session start open_at =
+    reply region session (codes "refused 43 TooOld start " ++ decimal start ++ codes " open " ++ decimal open_at)
+
+unfoldable pub session_waits : ℕ → ℕ → CandId → List ℕ
+session_waits region session ticket = reply region session (codes "refused 46 Waiting " ++ id_text ticket)
+
+unfoldable pub batch_full : ℕ → ℕ → List ℕ
+batch_full region session = reply region session (codes "refused 47 BatchFull")
+
+unfoldable pub answer : ℕ → ℕ → Table → List ℕ
+answer region session rows = reply region session (codes "rows " ++ decimal (length rows)) ++ rows_lines rows
+
+unfoldable pub seal_ahead : ℕ → List ℕ
+seal_ahead region = notice region (codes "refused 50 Ahead")
+
+unfoldable pub seal_last : ℕ → List ℕ
+seal_last region = notice region (codes "refused 51 LastEpoch")
+
+unfoldable pub batch_sealed : ℕ → ℕ → ℕ → List ℕ
+batch_sealed region epoch count = notice region (codes "sealed " ++ decimal epoch ++ codes " with " ++ decimal count)
+
+unfoldable pub packet_new : ℕ → List ℕ
+packet_new packet = news packet (codes "new")
+
+unfoldable pub packet_known : ℕ → List ℕ
+packet_known packet = news packet (codes "known")
+
+unfoldable pub packet_far : ℕ → ℕ → List ℕ
+packet_far packet limit = news packet (codes "far " ++ decimal limit)
+
+unfoldable pub packet_absent : ℕ → List ℕ
+packet_absent packet = news packet (codes "absent")
+
+unfoldable pub epoch_published : ℕ → ℕ → ℕ → ℕ → List ℕ
+epoch_published region epoch commits aborts =
+    notice region (codes "published " ++ decimal epoch ++ codes " commits " ++ decimal commits ++ codes " aborts " ++ decimal aborts)
+
+unfoldable pub region_waits : ℕ → ℕ → ℕ → ℕ → List ℕ
+region_waits region epoch have regions =
+    notice region (codes "waiting " ++ decimal epoch ++ codes ": have " ++ decimal have ++ codes " of " ++ decimal regions)
+
+-- where the region stands, and its table
+unfoldable pub shown : ℕ → ℕ → Table → List ℕ
+shown region published rows =
+    notice region (codes "at " ++ decimal published) ++ line (codes "table kv " ++ decimal (length rows) ++ codes " rows") ++ rows_lines rows

@@ -1,0 +1,102 @@
+-- What each event does to a region of the program.
+use Rattle.std.specs.Prelude.{◌≡◌, ◌≢◌, ℕ, ◌+◌, ◌-◌, ◌^◌, ◌<◌, ◌==◌, nat_lt, min, Bool, Option, None, is_some, if◌then◌else◌, List, [], ◌∷◌, ◌++◌, length, replicate, slice_set}
+use Rattle.std.specs.List.{slice_get, filter_map}
+use Rattle.geo_base.specs.declared.limits.TheConstants.{SESSIONS_PER_REGION}
+use Rattle.geo_base.specs.declared.numbers.CandId.{CandId}
+use Rattle.write_set.specs.declared.batch.Batch.{Batch}
+use Rattle.write_set.specs.declared.candidate.Candidate.{Candidate}
+use Rattle.write_set.specs.Journal.{Epochs, AreBatches}
+use Rattle.write_set.specs.Plain.{IsMergeOf}
+use Rattle.geo_world.specs.declared.region.Region.{Region}
+use Rattle.geo_world.specs.declared.session.Session.TheVariants.{Idle, Pending}
+use Rattle.geo_world.specs.Arrivals.{batch_in, with_batch}
+use Rattle.geo_world.specs.Step.{numbers_below}
+
+-- a region of so many, before any event
+pub record IsNew (regions : ℕ) (region : Region) : Type 0 where
+  pub opens : region.open ≡ 1
+  pub log : region.log.items ≡ []
+  pub waiting : region.waiting.items ≡ []
+  pub inbox : (of epoch : ℕ) → batch_in region.inbox of epoch ≡ None
+  pub merges : region.merging.regions ≡ regions
+  pub published : region.merging.plain.epoch ≡ 0
+  pub merged : IsMergeOf [] region.merging.plain
+  pub sessions : region.sessions.items ≡ replicate SESSIONS_PER_REGION Idle
+
+-- the region takes a candidate, whose session waits with this ticket
+pub record Takes (number session : ℕ) (candidate : Candidate) (ticket : CandId) (old new : Region) : Type 0 where
+  pub named : ticket ≡ record { epoch = old.open; region = number; csn = min (length old.waiting.items) 4294967295 }
+  pub opens : new.open ≡ old.open
+  pub log : new.log.items ≡ old.log.items
+  pub waiting : new.waiting.items ≡ old.waiting.items ++ candidate ∷ []
+  pub inbox : new.inbox ≡ old.inbox
+  pub merging : new.merging ≡ old.merging
+  pub sessions : new.sessions.items ≡ slice_set old.sessions.items session (Pending ticket)
+
+-- the region seals its open candidates
+pub record Seals (number : ℕ) (old new : Region) : Type 0 where
+  pub opens : new.open ≡ old.open + 1
+  pub log : new.log.items ≡ old.log.items ++ record { region = number; epoch = old.open; items = old.waiting.items } ∷ []
+  pub waiting : new.waiting.items ≡ []
+  pub inbox : new.inbox ≡ old.inbox
+  pub merging : new.merging ≡ old.merging
+  pub sessions : new.sessions.items ≡ old.sessions.items
+
+-- a batch comes to the region
+pub record Receives (batch : Batch) (old new : Region) : Type 0 where
+  pub opens : new.open ≡ old.open
+  pub log : new.log.items ≡ old.log.items
+  pub waiting : new.waiting.items ≡ old.waiting.items
+  pub inbox : (of epoch : ℕ) → batch_in new.inbox of epoch ≡ with_batch batch (batch_in old.inbox) of epoch
+  pub merging : new.merging ≡ old.merging
+  pub sessions : new.sessions.items ≡ old.sessions.items
+
+-- batches of the epoch may leave the inbox
+pub record Gathers (gathered : ℕ) (old new : Region) : Type 0 where
+  pub opens : new.open ≡ old.open
+  pub log : new.log.items ≡ old.log.items
+  pub waiting : new.waiting.items ≡ old.waiting.items
+  pub inbox : (of epoch : ℕ) → epoch ≢ gathered → batch_in new.inbox of epoch ≡ batch_in old.inbox of epoch
+  pub merging : new.merging ≡ old.merging
+  pub sessions : new.sessions.items ≡ old.sessions.items
+
+-- the batch of that region and epoch may leave the inbox
+pub record TakesOut (from gathered : ℕ) (old new : Region) : Type 0 where
+  pub opens : new.open ≡ old.open
+  pub log : new.log.items ≡ old.log.items
+  pub waiting : new.waiting.items ≡ old.waiting.items
+  pub inbox : (of epoch : ℕ) → ((of ≡ from) × (epoch ≡ gathered) → ⊥) → batch_in new.inbox of epoch ≡ batch_in old.inbox of epoch
+  pub merging : new.merging ≡ old.merging
+  pub sessions : new.sessions.items ≡ old.sessions.items
+
+-- the region of this number has that region's batch of the epoch
+abbrev pub has_next : Region → ℕ → ℕ → ℕ → Bool
+has_next region number epoch of =
+    if of == number then nat_lt epoch region.open else is_some (batch_in region.inbox of epoch)
+
+-- that region's batch of the epoch, if the region of this number has it
+abbrev pub next_batch_of : Region → ℕ → ℕ → ℕ → Option Batch
+next_batch_of region number epoch of =
+    if of == number then slice_get region.log.items (epoch - 1) else batch_in region.inbox of epoch
+
+-- the batches of the epoch that the region of this number has, by region
+abbrev pub next_batches : Region → ℕ → ℕ → List Batch
+next_batches region number epoch = filter_map (next_batch_of region number epoch) (numbers_below region.merging.regions)
+
+-- the batches of the epoch, which comes after these, are all here and lawful
+pub record IsReady (epochs : Epochs) (number epoch : ℕ) (region : Region) : Type 0 where
+  pub next : epoch ≡ region.merging.plain.epoch + 1
+  pub room : epoch < 2 ^ 32
+  pub merged : IsMergeOf epochs region.merging.plain
+  pub all : length (next_batches region number epoch) ≡ region.merging.regions
+  pub lawful : AreBatches 0 epoch (next_batches region number epoch)
+
+-- the region publishes the epoch, after which it has published these
+pub record Publishes (epochs : Epochs) (published : ℕ) (old new : Region) : Type 0 where
+  pub opens : new.open ≡ old.open
+  pub log : new.log.items ≡ old.log.items
+  pub waiting : new.waiting.items ≡ old.waiting.items
+  pub inbox : (of epoch : ℕ) → epoch ≢ published → batch_in new.inbox of epoch ≡ batch_in old.inbox of epoch
+  pub merges : new.merging.regions ≡ old.merging.regions
+  pub merged : IsMergeOf epochs new.merging.plain
+  pub sessions : new.sessions.items ≡ old.sessions.items

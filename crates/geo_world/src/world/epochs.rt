@@ -1,0 +1,83 @@
+//! Epochs: a region seals its batch, and merges and publishes the next.
+ghost use Rattle.std.specs.Prelude.{◌≡◌, ◌<◌, ◌++◌, OnOk, string_bytes, count_by, not};
+ghost use Rattle.write_set.specs.Merge.{is_committed};
+ghost use Rattle.geo_world.specs.World.{World as WorldState};
+ghost use Rattle.geo_world.specs.Step.{seal, publish};
+
+use super::World;
+use crate::counts::count_of;
+use crate::printing::{
+    print_batch_sealed, print_epoch_published, print_region_waits, print_seal_ahead,
+    print_seal_last,
+};
+use crate::sending::send_all;
+use geo_base::{NoMemory, Outcome, RegionNo};
+
+impl World {
+    ghost use Rattle.geo_world.specs.Standing.{StandsFor, Makes, region_count};
+
+    /// Seals the open epoch of a region and sends its batch to every other region.
+    pub(super) fn seal(&mut self, out: &mut String, number: RegionNo) -> Result<(), NoMemory>
+        requires { number < region_count self.old }
+        ensures count { region_count self.new ≡ region_count self.old }
+        ensures step { (w : WorldState) → StandsFor w self.old →
+            OnOk result (Makes (seal w number) (string_bytes out.old) (string_bytes out.new) self.new) }
+    {
+        let region = &self.regions[number as usize];
+        let epoch = region.open;
+        if epoch >= self.last {
+            return print_seal_last(out, number);
+        }
+        if region.is_ahead() {
+            return print_seal_ahead(out, number);
+        }
+        let count = count_of(region.waiting.len());
+        let regions = region.merging.regions;
+        self.regions[number as usize].seal(self.alloc, number)?;
+        print_batch_sealed(out, number, epoch, count)?;
+        match self.regions[number as usize].log.as_slice().last() {
+            Some(batch) => send_all(self.alloc, &mut self.packets, out, regions, batch),
+            None => Ok(()),
+        }
+    }
+
+    /// Publishes the next epoch of a region, if it has the batch of every region.
+    pub(super) fn publish(&mut self, out: &mut String, number: RegionNo) -> Result<(), NoMemory>
+        requires { number < region_count self.old }
+        ensures count { region_count self.new ≡ region_count self.old }
+        ensures step { (w : WorldState) → StandsFor w self.old →
+            OnOk result (Makes (publish w number) (string_bytes out.old) (string_bytes out.new) self.new) }
+    {
+        let region = &self.regions[number as usize];
+        let regions = region.merging.regions;
+        let epoch = region.next_epoch();
+        let have = region.count_next(number, epoch);
+        if have < regions {
+            return print_region_waits(out, number, epoch, have, regions);
+        }
+        let outcomes = self.regions[number as usize].publish(self.alloc, number, epoch)?;
+        let commits = count_of(count_committed(outcomes.as_slice()));
+        let aborts = count_of(count_aborted(outcomes.as_slice()));
+        print_epoch_published(out, number, epoch, commits, aborts)
+    }
+}
+
+/// How many of the candidates committed.
+fn count_committed(outcomes: &[Outcome]) -> usize
+    ensures { result ≡ count_by is_committed outcomes.now }
+{
+    outcomes
+        .iter()
+        .filter(|outcome| matches!(outcome, Outcome::Committed))
+        .count()
+}
+
+/// How many of them did not.
+fn count_aborted(outcomes: &[Outcome]) -> usize
+    ensures { result ≡ count_by (λ o. not (is_committed o)) outcomes.now }
+{
+    outcomes
+        .iter()
+        .filter(|outcome| !matches!(outcome, Outcome::Committed))
+        .count()
+}
