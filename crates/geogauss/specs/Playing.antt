@@ -1,0 +1,55 @@
+-- What a play prints, and how much of it was printed where the play stopped.
+use Rattle.std.specs.Prelude.{◌≡◌, ℕ, ◌+◌, ◌-◌, ◌≤◌, Option, Some, List, [], length, take, All}
+use Rattle.std.specs.Io.KnownBytes.{Appends, Consumes}
+use Rattle.geo_base.specs.declared.limits.TheConstants.{MAX_REGIONS, SCRIPT_BYTES}
+use Rattle.geo_io.specs.Told.{IsFrontOf}
+use Rattle.write_set.specs.Journal.{Journal}
+use Rattle.geo_world.specs.declared.event.Event.{Event}
+use Rattle.geo_world.specs.declared.script.Script.{Script}
+use Rattle.geo_world.specs.Script.{IsScript, IsWithin}
+use Rattle.geo_world.specs.World.{World, first_world}
+use Rattle.geo_world.specs.Play.{text_of, world_after}
+
+-- the world before the script's first event, where no region opens an epoch past this one
+abbrev pub world_of : ℕ → Script → World
+world_of last script = first_world script.regions last
+
+-- all lines that the script's events print
+abbrev pub play_text : ℕ → Script → List ℕ
+play_text last script = text_of (world_of last script) script.events
+
+-- the batches that all regions have sealed in the end
+abbrev pub play_journal : ℕ → Script → Journal
+play_journal last script = (world_after (world_of last script) script.events).journal
+
+-- no script has this text
+abbrev pub IsNoScript : List ℕ → Type 0
+IsNoScript bytes = (script : Script) → ¬ (IsScript script bytes)
+
+-- of the bytes that there were, those that are read: all, or one more than a script may have
+unfoldable pub bytes_read : List ℕ → List ℕ
+bytes_read bytes = take (SCRIPT_BYTES + 1) bytes
+
+-- the sink gained a front of the events' lines: at least those of the first `done - 1` events, and at most those of the first `done`.
+-- Each front lies between the lines of some such number and the next; a play that keeps logs will tie them to the same number
+pub record StoppedAfter (w : World) (events : List Event) (old new : Option (List ℕ)) : Type 0 where
+  pub done : ℕ
+  pub within : done ≤ length events
+  pub gained : List ℕ
+  pub appended : Appends old new gained
+  pub least : IsFrontOf (text_of w (take (done - 1) events)) gained
+  pub most : IsFrontOf gained (text_of w (take done events))
+  pub front : IsFrontOf gained (text_of w events)
+
+-- the script has 1 to 8 regions, and its events are of these
+pub record IsPlayable (script : Script) : Type 0 where
+  pub some : 1 ≤ script.regions
+  pub few : script.regions ≤ MAX_REGIONS
+  pub within : All (IsWithin script.regions) script.events
+
+-- the script's text was taken from the source, which has no more
+pub record IsReadWhole (script : Script) (old new : Option (List ℕ)) : Type 0 where
+  pub bytes : List ℕ
+  pub spelled : IsScript script bytes
+  pub taken : Consumes old new bytes
+  pub end : (input : List ℕ) → old ≡ Some input → new ≡ Some []
