@@ -104,12 +104,12 @@ after_set (d ∷ ds) c row left image h among has =
 applies : (journal : Journal) (epoch : ℕ) → IsJournal journal → suc epoch ≤ last_sealed journal → AppliesEpoch journal epoch
 applies journal epoch lawful sealed = record {
   written = λ c row change commits has.
-      let isset = (committed_lawful journal epoch c lawful sealed commits.among).lawful in
+      let isset = (committed_lawful journal epoch c lawful commits.among).lawful in
       let left = λ (image : Option RowImage). after_written c.set row change image isset.rising has in
       let has_it : has_row row c.set ≡ true = row_among (row, change) c.set has in
       after_set now c row (image_of change) (snap_at (epochs_of journal epoch) row)
       (λ d among rd image. subst (λ x. image_after x.set row image ≡ image_of change)
-      (committed_same journal epoch c d row lawful sealed commits.among among has_it rd) (left image))
+      (committed_same journal epoch c d row lawful commits.among among has_it rd) (left image))
       commits.among has_it;
   kept = λ row none.
       after_untouched now row (snap_at (epochs_of journal epoch) row) (λ c among. none c (record { sealed = sealed; among = among }));
@@ -155,26 +155,26 @@ later_starts journal e (suc n) c d row less hc hd rc rd =
     let before = changed_before journal n d row hd rd in
     omega (arith, since, before)
 
-same_epoch : (journal : Journal) (e : ℕ) (c d : Placed) (row : RowId) → IsJournal journal → e ≤ last_sealed journal →
+same_epoch : (journal : Journal) (e : ℕ) (c d : Placed) (row : RowId) → IsJournal journal →
     Contains (committed (epochs_of journal e)) c → Contains (committed (epochs_of journal e)) d → has_row row c.set ≡ true → has_row row d.set ≡ true → c ≡ d
-same_epoch journal zero c d row lawful sealed hc hd rc rd = absurd (among_none c hc)
-same_epoch journal (suc n) c d row lawful sealed hc hd rc rd = committed_same journal n c d row lawful sealed hc hd rc rd
+same_epoch journal zero c d row lawful hc hd rc rd = absurd (among_none c hc)
+same_epoch journal (suc n) c d row lawful hc hd rc rd = committed_same journal n c d row lawful hc hd rc rd
 
 pub commit_once : (journal : Journal) (epoch : ℕ) (c d : Placed) (row : RowId) → IsJournal journal → Commits journal epoch c → Commits journal epoch d →
     has_row row c.set ≡ true → has_row row d.set ≡ true → c ≡ d
-commit_once journal epoch c d row lawful hc hd rc rd = same_epoch journal epoch c d row lawful hc.sealed hc.among hd.among rc rd
+commit_once journal epoch c d row lawful hc hd rc rd = same_epoch journal epoch c d row lawful hc.among hd.among rc rd
 
 starts_before : (journal : Journal) (epoch : ℕ) (c : Placed) → IsJournal journal → Commits journal epoch c → c.start < epoch
 starts_before journal zero c lawful commits = absurd (among_none c commits.among)
 starts_before journal (suc n) c lawful commits =
-    let placed = committed_lawful journal n c lawful commits.sealed commits.among in
+    let placed = committed_lawful journal n c lawful commits.among in
     omega (arith, placed.earlier)
 
 apart_level : (journal : Journal) → IsJournal journal → (e f : ℕ) (c d : Placed) (row : RowId) → e ≡ f → Commits journal e c → Commits journal f d →
     has_row row c.set ≡ true → has_row row d.set ≡ true → AreApart e c f d
 apart_level journal lawful e f c d row same hc hd rc rd =
     let among : Contains (committed (epochs_of journal e)) d = subst (λ k. Contains (committed (epochs_of journal k)) d) (sym same) hd.among in
-    inl (same, same_epoch journal e c d row lawful hc.sealed hc.among among rc rd)
+    inl (same, same_epoch journal e c d row lawful hc.among among rc rd)
 
 apart : (journal : Journal) → IsJournal journal → (e f : ℕ) (c d : Placed) (row : RowId) → Commits journal e c → Commits journal f d →
     has_row row c.set ≡ true → has_row row d.set ≡ true → AreApart e c f d

@@ -8,5 +8,6 @@ pub mod Sealing
 pub mod Tables
 pub mod Lists
 pub mod Judging
+pub mod Keeping
 pub mod Rising
 pub mod Merging

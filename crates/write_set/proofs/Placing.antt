@@ -1,5 +1,6 @@
 -- The candidates of an epoch: each stands once, and each is lawful.
-use Rattle.std.proofs.Common.{◌≡◌, true, ⊎_elim, ℕ, zero, suc, ◌+◌, ◌<◌, ◌≤◌, List, [], ◌∷◌, length, All, Contains, refl, sym, ap, ◌∙◌, subst, arith}
+use Rattle.std.proofs.Common.{◌≡◌, true, ⊎_elim, ℕ, zero, suc, ◌+◌, ◌<◌, ◌≤◌, Option, None, Some, List, [], ◌∷◌, length, All, Contains, refl, sym, ap, ◌∙◌, subst, arith}
+use Rattle.std.specs.List.{slice_get, cons_option}
 use Rattle.std.proofs.lemmas.List.Elements.{All-head, All-tail, Contains-append_cases}
 use Rattle.geo_base.specs.declared.limits.TheConstants.{MAX_AGE}
 use Rattle.geo_base.specs.declared.claim.Claim.{Claim}
@@ -7,10 +8,9 @@ use Rattle.geo_base.specs.declared.row_id.RowId.{RowId}
 use Rattle.write_set.specs.declared.candidate.Candidate.{Candidate}
 use Rattle.write_set.specs.declared.batch.Batch.{Batch}
 use Rattle.write_set.specs.Sets.{has_row, IsWriteSet}
-use Rattle.write_set.specs.Journal.{Journal, Placed, placed_from, candidates_of, last_sealed, batches_at, epochs_of, IsCandidate, AreBatches, IsJournal}
+use Rattle.write_set.specs.Journal.{Journal, Placed, placed_from, candidates_of, batch_at, batches_at, epochs_of, IsCandidate, IsBatch, IsJournal}
 use Rattle.write_set.specs.Merge.{claim_of, committed, last_change, verdict_of, is_committed}
 use Rattle.write_set.proofs.Among.{among_none, among_cases, filtered_among}
-use Rattle.write_set.proofs.Sealing.{batches_lawful}
 use Rattle.write_set.proofs.Rivals.{committed_claim}
 
 -- a candidate of the epoch, as it stands in its place
@@ -61,18 +61,52 @@ placed_lawful epoch region csn (x ∷ xs) c lawful h =
     (λ later. placed_lawful epoch region (csn + 1) xs c (All-tail (IsCandidate epoch) x xs lawful) later)
     (among_cases (record { region = region; csn = csn; start = x.start; set = x.set }) (placed_from region (csn + 1) xs) c h)
 
+-- ---- the batches of an epoch
+
+-- batches of the epoch, in the order of their regions, from this region on
+abbrev pub BatchesRise : ℕ → ℕ → List Batch → Type 0
+BatchesRise region epoch [] = Unit {0}
+BatchesRise region epoch (b ∷ bs) = (region ≤ b.region) × IsBatch b.region epoch b × BatchesRise (b.region + 1) epoch bs
+
+rise_lower : (region epoch : ℕ) (bs : List Batch) → BatchesRise (region + 1) epoch bs → BatchesRise region epoch bs
+rise_lower region epoch [] rise = tt
+rise_lower region epoch (b ∷ bs) rise = (omega (arith, rise.0), rise.1, rise.2)
+
+rise_from : (journal : Journal) (place first : ℕ) →
+    ((region : ℕ) (b : Batch) → batch_at journal region place ≡ Some b → IsBatch (first + region) (place + 1) b) →
+    BatchesRise first (place + 1) (batches_at journal place)
+rise_from [] place first lawful = tt
+rise_from (log ∷ logs) place first lawful =
+    by (slice_get log place) refl
+    (rise_from logs place (first + 1) (λ region b e. subst (λ r. IsBatch r (place + 1) b) (omega arith) (lawful (suc region) b e)))
+  where
+    by : (o : Option Batch) → slice_get log place ≡ o → BatchesRise (first + 1) (place + 1) (batches_at logs place) →
+        BatchesRise first (place + 1) (cons_option o (batches_at logs place))
+    by None is rest = rise_lower first (place + 1) (batches_at logs place) rest
+    by (Some b) is rest =
+        let here = lawful zero b is in
+        let at : b.region ≡ first = omega (arith, here.region) in (
+          omega (arith, at),
+          record { region = refl; epoch = here.epoch; few = here.few; lawful = here.lawful },
+          subst (λ r. BatchesRise (r + 1) (place + 1) (batches_at logs place)) (sym at) rest,
+        )
+
+pub batches_rise : (journal : Journal) (place : ℕ) → IsJournal journal → BatchesRise 0 (place + 1) (batches_at journal place)
+batches_rise journal place lawful =
+    rise_from journal place 0 (λ region b e. subst (λ r. IsBatch r (place + 1) b) (omega arith) (lawful.lawful region place b e))
+
 -- ---- all regions' candidates
 
-candidates_region : (region epoch : ℕ) (bs : List Batch) (c : Placed) → AreBatches region epoch bs → Contains (candidates_of bs) c → region ≤ c.region
+candidates_region : (region epoch : ℕ) (bs : List Batch) (c : Placed) → BatchesRise region epoch bs → Contains (candidates_of bs) c → region ≤ c.region
 candidates_region region epoch [] c lawful h = absurd (among_none c h)
 candidates_region region epoch (b ∷ bs) c lawful h =
     ⊎_elim
-    (λ here. let at = placed_region b.region 0 b.items c here in omega (arith, at.0, lawful.0.region))
-    (λ later. let rest = candidates_region (region + 1) epoch bs c lawful.1 later in omega (arith, rest))
+    (λ here. let at = placed_region b.region 0 b.items c here in omega (arith, at.0, lawful.0))
+    (λ later. let rest = candidates_region (b.region + 1) epoch bs c lawful.2 later in omega (arith, rest, lawful.0))
     (Contains-append_cases (placed_from b.region 0 b.items) (candidates_of bs) c h)
 
 -- the region and the commit number tell which candidate it is
-pub candidates_same : (region epoch : ℕ) (bs : List Batch) (c d : Placed) → AreBatches region epoch bs →
+pub candidates_same : (region epoch : ℕ) (bs : List Batch) (c d : Placed) → BatchesRise region epoch bs →
     Contains (candidates_of bs) c → Contains (candidates_of bs) d → c.region ≡ d.region → c.csn ≡ d.csn → c ≡ d
 candidates_same region epoch [] c d lawful hc hd r n = absurd (among_none c hc)
 candidates_same region epoch (b ∷ bs) c d lawful hc hd r n =
@@ -83,7 +117,7 @@ candidates_same region epoch (b ∷ bs) c d lawful hc hd r n =
     (Contains-append_cases first rest d hd))
     (λ laterc. ⊎_elim
     (λ hered. absurd (apart d c hered laterc (sym r)))
-    (λ laterd. candidates_same (region + 1) epoch bs c d lawful.1 laterc laterd r n)
+    (λ laterd. candidates_same (b.region + 1) epoch bs c d lawful.2 laterc laterd r n)
     (Contains-append_cases first rest d hd))
     (Contains-append_cases first rest c hc)
   where
@@ -96,15 +130,15 @@ candidates_same region epoch (b ∷ bs) c d lawful hc hd r n =
     apart : (x y : Placed) → Contains first x → Contains rest y → x.region ≡ y.region → ⊥
     apart x y hx hy e =
         let here = placed_region b.region 0 b.items x hx in
-        let later = candidates_region (region + 1) epoch bs y lawful.1 hy in
-        omega (arith, here.0, later, lawful.0.region)
+        let later = candidates_region (b.region + 1) epoch bs y lawful.2 hy in
+        omega (arith, here.0, later)
 
-pub candidates_lawful : (region epoch : ℕ) (bs : List Batch) (c : Placed) → AreBatches region epoch bs → Contains (candidates_of bs) c → IsPlaced epoch c
+pub candidates_lawful : (region epoch : ℕ) (bs : List Batch) (c : Placed) → BatchesRise region epoch bs → Contains (candidates_of bs) c → IsPlaced epoch c
 candidates_lawful region epoch [] c lawful h = absurd (among_none c h)
 candidates_lawful region epoch (b ∷ bs) c lawful h =
     ⊎_elim
-    (placed_lawful epoch b.region 0 b.items c lawful.0.lawful)
-    (candidates_lawful (region + 1) epoch bs c lawful.1)
+    (placed_lawful epoch b.region 0 b.items c lawful.1.lawful)
+    (candidates_lawful (b.region + 1) epoch bs c lawful.2)
     (Contains-append_cases (placed_from b.region 0 b.items) (candidates_of bs) c h)
 
 -- ---- what commits
@@ -122,18 +156,18 @@ committed_among journal place c h =
     let all = candidates_of (batches_at journal place) in
     (filtered_among (λ x. is_committed (verdict_of (last_change older) (length older + 1) all x)) all c h).0
 
-pub committed_lawful : (journal : Journal) (place : ℕ) (c : Placed) → IsJournal journal → place < last_sealed journal →
+pub committed_lawful : (journal : Journal) (place : ℕ) (c : Placed) → IsJournal journal →
     Contains (committed (epochs_of journal (suc place))) c → IsPlaced (place + 1) c
-committed_lawful journal place c lawful sealed h =
-    candidates_lawful 0 (place + 1) (batches_at journal place) c (batches_lawful journal place lawful sealed) (committed_among journal place c h)
+committed_lawful journal place c lawful h =
+    candidates_lawful 0 (place + 1) (batches_at journal place) c (batches_rise journal place lawful) (committed_among journal place c h)
 
 -- two that commit in one epoch and share a row are one
-pub committed_same : (journal : Journal) (place : ℕ) (c d : Placed) (row : RowId) → IsJournal journal → place < last_sealed journal →
+pub committed_same : (journal : Journal) (place : ℕ) (c d : Placed) (row : RowId) → IsJournal journal →
     Contains (committed (epochs_of journal (suc place))) c → Contains (committed (epochs_of journal (suc place))) d →
     has_row row c.set ≡ true → has_row row d.set ≡ true → c ≡ d
-committed_same journal place c d row lawful sealed hc hd rc rd =
+committed_same journal place c d row lawful hc hd rc rd =
     let older = epochs_of journal place in
     let claim : claim_of c ≡ claim_of d = committed_claim (last_change older) (candidates_of (batches_at journal place)) (length older + 1) c d row hc hd rc rd in
-    candidates_same 0 (place + 1) (batches_at journal place) c d (batches_lawful journal place lawful sealed)
+    candidates_same 0 (place + 1) (batches_at journal place) c d (batches_rise journal place lawful)
     (committed_among journal place c hc) (committed_among journal place d hd)
     (ap (λ (x : Claim). x.region) claim) (ap (λ (x : Claim). x.csn) claim)

@@ -1,5 +1,6 @@
--- What the plain merge makes of an epoch's candidates, and the verdicts said over the fresh ones alone.
-use Rattle.std.specs.Prelude.{ℕ, Bool, not, ◌&&◌, Option, None, Some, unwrap_or, List, filter, find}
+-- What the plain merge makes of an epoch's candidates, and the verdicts said over the fresh ones alone. These are the words
+-- of the program's inner functions: proofs/Merging shows that they give the verdicts of Merge.
+use Rattle.std.specs.Prelude.{ℕ, Bool, not, ◌&&◌, Option, None, Some, unwrap_or, if◌then◌else◌, List, [], ◌∷◌, filter, find}
 use Rattle.std.specs.List.{list_any}
 use Rattle.std.specs.Option.{option_map}
 use Rattle.geo_base.specs.declared.row_id.RowId.{RowId}
@@ -34,6 +35,16 @@ keeps_row fresh d row = has_row row d.candidate.now.set && not (loses_row fresh 
 -- the fresh candidate that keeps the row
 abbrev pub keeper_of : List Entrant → RowId → Option Entrant
 keeper_of fresh row = find (λ d. keeps_row fresh d row) fresh
+
+-- the candidate has the row, and wins over the best one before it, if there is one
+abbrev pub is_better : Option Entrant → Entrant → RowId → Bool
+is_better None d row = has_row row d.candidate.now.set
+is_better (Some best) d row = takes_row d (placed best) row
+
+-- the best one after these candidates: each that is better takes the place of the best one before it
+abbrev pub best_of : Option Entrant → List Entrant → RowId → Option Entrant
+best_of best [] row = best
+best_of best (d ∷ ds) row = best_of (if is_better best d row then Some d else best) ds row
 
 -- the candidate's first row that it loses
 abbrev pub first_lost : List Entrant → Placed → Option RowChange

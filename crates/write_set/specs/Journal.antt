@@ -15,7 +15,7 @@ Journal = List (List Batch)
 abbrev pub log_of : Journal → ℕ → List Batch
 log_of journal region = slice_index_or journal region []
 
--- the batch that stands at a place of a region's list, which is of the epoch after that number
+-- the batch at a place of a region's list: place p of the list holds its batch of epoch p + 1
 abbrev pub batch_at : Journal → ℕ → ℕ → Option Batch
 batch_at journal region place = slice_get (log_of journal region) place
 

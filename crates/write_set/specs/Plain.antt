@@ -30,7 +30,8 @@ pub record IsMergeOf (epochs : Epochs) (merged : Merged) : Type 0 where
 abbrev pub Rises : {X : Type 0} → List (RowId × X) → Type 0
 Rises entries = IsStrictlySortedBy row_cmp (keys_of entries)
 
--- the last changes, with the epoch at each of the rows
+-- the last changes, with the epoch at each of the rows: the word of an inner function of the program, of which proofs/Merging
+-- shows that it gives the last changes of Merge
 abbrev pub noted : ℕ → List (RowId × ℕ) → List RowId → List (RowId × ℕ)
 noted epoch changes [] = changes
 noted epoch changes (row ∷ rows) = noted epoch (insert_entry row_cmp changes row epoch) rows

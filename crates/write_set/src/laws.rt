@@ -57,13 +57,13 @@ pub fn winner_is_unbeaten()
 pub fn verdicts_are_by_the_rules()
     ensures rules { (last : RowId → ℕ) (epoch : ℕ) (all : List Placed) (c : Placed) (outcome : Outcome) → RowsRise c.set →
         (verdict_of last epoch all c ≡ outcome) ↔ IsVerdict last epoch all c outcome }
-    ensures rising { (journal : Journal) (place : ℕ) (c : Placed) → IsJournal journal → place < last_sealed journal →
+    ensures rising { (journal : Journal) (place : ℕ) (c : Placed) → IsJournal journal →
         Contains (candidates_of (batches_at journal place)) c → RowsRise c.set }
 {}
 
 /// A name stands for one candidate of its epoch alone.
 pub fn names_are_of_one_candidate()
-    ensures { (journal : Journal) (place : ℕ) (c d : Placed) → IsJournal journal → place < last_sealed journal →
+    ensures { (journal : Journal) (place : ℕ) (c d : Placed) → IsJournal journal →
         Contains (candidates_of (batches_at journal place)) c → Contains (candidates_of (batches_at journal place)) d →
         id_of (place + 1) c ≡ id_of (place + 1) d → c ≡ d }
 {}

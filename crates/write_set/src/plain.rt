@@ -1,6 +1,7 @@
-ghost use Rattle.std.specs.Prelude.{◌≡◌, ◌+◌, ◌<◌, ◌≤◌, ◌^◌, ◌∷◌, [], length, IfOk, OnErr};
+ghost use Rattle.std.specs.Prelude.{◌≡◌, ℕ, ◌+◌, ◌≤◌, ◌∷◌, [], length, IfOk, OnErr};
 ghost use Rattle.std.specs.List.{slice_get};
 ghost use Rattle.std.specs.Option.{option_copied, option_map};
+ghost use Rattle.geo_base.specs.declared.limits.TheConstants.{MAX_REGIONS};
 ghost use Rattle.write_set.specs.Snapshot.{image_in};
 ghost use Rattle.write_set.specs.Journal.{Epochs, AreBatches, candidates_of};
 ghost use Rattle.write_set.specs.Merge.{verdicts};
@@ -26,19 +27,23 @@ pub struct Plain {
 }
 
 impl Model for Plain {
+    ghost use Rattle.std.specs.Prelude.{◌≤◌};
     ghost use Rattle.write_set.specs.Plain.{Merged, Rises};
 
     ghost Value = { Merged };
 
     ghost view = { λ p. record { regions = p.regions; epoch = p.epoch; rows = p.rows.items; changes = p.changes.items } };
 
-    ghost invariant = { λ p. Rises p.rows.items × Rises p.changes.items };
+    ghost invariant = { λ p. (1 ≤ p.regions) × Rises p.rows.items × Rises p.changes.items };
 }
 
 impl Plain {
-    /// The merge before the first epoch: no rows.
+    /// The merge of so many regions before the first epoch: no rows.
     pub fn empty(alloc: Global, regions: u8) -> Plain
-        ensures { result ≡ record { regions = regions; epoch = 0; rows = []; changes = [] } }
+        requires some { 1 ≤ regions }
+        requires few { regions ≤ MAX_REGIONS }
+        ensures value { result ≡ record { regions = regions; epoch = 0; rows = []; changes = [] } }
+        ensures merged { IsMergeOf [] result }
     {
         Plain {
             alloc,
@@ -52,12 +57,12 @@ impl Plain {
     /// Merges the next epoch, given as one lawful batch of each region in their order, and answers the
     /// verdict on each candidate by region and then commit number. Without memory nothing changes.
     ///
-    /// For each row of each candidate it compares all the epoch's candidates that are fresh, and for
-    /// each row that changes it searches the rows by halving and moves those behind the place.
+    /// For each row of each candidate it compares the candidate with each fresh one of the epoch, and
+    /// searches that one's set. For each row that changes it searches the rows, and the last changes, by
+    /// halving, and moves those behind the place.
     pub fn step(&mut self, batches: &[Batch]) -> Result<Vec<Outcome>, NoMemory>
         requires count { length batches.now ≡ self.old.regions }
         requires lawful { AreBatches 0 (self.old.epoch + 1) batches.now }
-        requires room { self.old.epoch + 1 < 2 ^ 32 }
         ensures verdicts { (epochs : Epochs) → IsMergeOf epochs self.old →
             IfOk result (λ outcomes. outcomes.items ≡ verdicts (candidates_of batches.now ∷ epochs)) }
         ensures merged { (epochs : Epochs) → IsMergeOf epochs self.old →
@@ -65,8 +70,8 @@ impl Plain {
         ensures regions { self.new.regions ≡ self.old.regions }
         ensures err { OnErr result (self.new ≡ self.old) }
     {
-        let epoch = self.epoch + 1;
         let all = entrants(self.alloc, batches)?;
+        let epoch = epoch_of(batches);
         let changes = self.changes.as_slice();
         let fresh = fresh_ones(self.alloc, changes, all.as_slice())?;
         let judged = judge(self.alloc, changes, epoch, fresh.as_slice(), all.as_slice())?;
@@ -109,4 +114,12 @@ impl Plain {
             None => None,
         }
     }
+}
+
+/// The epoch that the batches are of.
+fn epoch_of(batches: &[Batch]) -> Epoch
+    requires { 1 ≤ length batches.now }
+    ensures { (region epoch : ℕ) → AreBatches region epoch batches.now → result ≡ epoch }
+{
+    batches[0].epoch
 }

@@ -29,6 +29,15 @@ impl Model for WriteSet {
 }
 
 impl WriteSet {
+    /// The set that changes no row.
+    pub fn empty(alloc: Global) -> WriteSet
+        ensures { result ≡ [] }
+    {
+        WriteSet {
+            changes: Vec::new(alloc),
+        }
+    }
+
     /// The set that changes this row alone.
     pub fn one(alloc: Global, row: RowId, change: Change) -> Result<WriteSet, NoMemory>
         ensures { IfOk result (λ set. set ≡ (row, change) ∷ []) }

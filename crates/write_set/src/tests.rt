@@ -185,6 +185,12 @@ fn puts_and(case: Case, second: Write) -> Case {
 }
 
 #[test]
+fn an_empty_set_has_no_rows(rt: HostRuntime) -> Result<(), Fail> {
+    let set = WriteSet::empty(rt.alloc());
+    Ok(set.changes().is_empty().then_some(()).ok_or("rows")?)
+}
+
+#[test]
 fn the_best_of_an_epoch_wins(rt: HostRuntime) -> Result<(), Fail> {
     let alloc = rt.alloc();
     let later_start = [

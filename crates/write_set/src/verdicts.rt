@@ -3,7 +3,7 @@ ghost use Rattle.std.specs.Prelude.{◌≡◌, IfOk, map};
 ghost use Rattle.std.specs.Option.{option_copied};
 ghost use Rattle.write_set.specs.Sets.{has_row};
 ghost use Rattle.write_set.specs.Merge.{wins, is_fresh, first_changed};
-ghost use Rattle.write_set.specs.Entrants.{placed, fresh_of, takes_row, loses_row, keeps_row, keeper_of, first_lost, lost_or_committed, outcome_of, writes_of};
+ghost use Rattle.write_set.specs.Entrants.{placed, fresh_of, takes_row, loses_row, is_better, keeper_of, first_lost, lost_or_committed, outcome_of, writes_of};
 ghost use Rattle.write_set.specs.Plain.{Rises, last_in};
 
 use crate::change::Change;
@@ -103,18 +103,27 @@ fn loses_row(fresh: &[Entrant], c: &Entrant, row: &RowId) -> bool
     fresh.iter().any(|d| takes_row(d, c, row))
 }
 
-/// Whether the candidate has the row and no fresh one takes it.
-fn keeps_row(fresh: &[Entrant], d: &Entrant, row: &RowId) -> bool
-    ensures { result ≡ keeps_row fresh.now d.now row.now }
+/// Whether the candidate has the row and wins over the best one before it, if there is one.
+fn is_better(best: Option<&Entrant>, d: &Entrant, row: &RowId) -> bool
+    ensures { result ≡ is_better (option_copied best.entry) d.now row.now }
 {
-    has_row(row, d) && !loses_row(fresh, d, row)
+    match best {
+        Some(best) => takes_row(d, best, row),
+        None => has_row(row, d),
+    }
 }
 
-/// The fresh candidate that keeps the row.
+/// The fresh candidate that keeps the row: the best of those that have it.
 fn keeper_of<'a, 'b>(fresh: &'b [Entrant<'a>], row: &RowId) -> Option<&'b Entrant<'a>>
     ensures { option_copied result ≡ keeper_of fresh.now row.now }
 {
-    fresh.iter().find(|d| keeps_row(fresh, d, row))
+    let mut best = None;
+    for d in fresh {
+        if is_better(best, d, row) {
+            best = Some(d);
+        }
+    }
+    best
 }
 
 /// The candidate's first row that it loses.

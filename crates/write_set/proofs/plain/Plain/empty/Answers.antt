@@ -1,7 +1,7 @@
 use Rattle.std.specs.List.Sorted.{IsStrictlySortedBy}
 use Rattle.write_set.proofs.plain.Plain.empty.Goals as goal
 
--- no entries rise
+-- there are regions, and no entries rise
 pub invariant_of-result : goal.invariant_of-result
 unfolding IsStrictlySortedBy
-invariant_of-result c = rw (c.new.ensures.items, c.new-2.ensures.items) (tt, tt)
+invariant_of-result c = rw (c.new.ensures.items, c.new-2.ensures.items) (c.requires.some, tt, tt)
