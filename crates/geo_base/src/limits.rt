@@ -1,4 +1,4 @@
-//! The limits of regions, epochs, values and runs.
+//! The limits of regions, epochs, values, schemas and runs.
 
 /// Regions of one database.
 pub const MAX_REGIONS: u8 = 8;
