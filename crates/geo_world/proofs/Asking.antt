@@ -1,18 +1,17 @@
 -- What is printed where a region is asked, and where it takes an insert.
-use Rattle.std.proofs.Common.{◌≡◌, ℕ, ℤ, ◌<◌, Bool, true, false, cond, Option, Some, List, ◌++◌, length, set, get_or, slice_get, is_some, unwrap_or, vec_len, refl, sym, ap, ap₂, ◌∙◌, subst, arith}
+use Rattle.std.proofs.Common.{◌≡◌, ℕ, ℤ, ◌<◌, true, false, Some, List, ◌++◌, length, get_or, slice_get, is_some, vec_len, sym, ap, ap₂, ◌∙◌, subst, arith}
 use Rattle.std.proofs.lemmas.Bool.{cond-true, cond-false}
 use Rattle.std.proofs.lemmas.Option.{slice_get_read, same_Some}
 use Rattle.geo_base.specs.declared.limits.TheConstants.{SESSIONS_PER_REGION}
 use Rattle.geo_base.specs.declared.numbers.CandId.{CandId}
 use Rattle.geo_base.specs.declared.row_id.RowId.{RowId}
-use Rattle.write_set.specs.Snapshot.{Table, image_in, snap_at, snap_rows}
+use Rattle.write_set.specs.Snapshot.{Table, image_in, snap_at}
 use Rattle.write_set.proofs.Tables.{image_snap}
 use Rattle.geo_world.specs.declared.event.Statement.{Statement}
 use Rattle.geo_world.specs.declared.event.Statement.TheVariants.{Insert, Select}
 use Rattle.geo_world.specs.declared.world.World.{World as Kept}
 use Rattle.geo_world.specs.declared.region.Region.{Region}
 use Rattle.geo_world.specs.declared.session.Session.{Session as KeptSession}
-use Rattle.geo_world.specs.declared.session.Session.TheVariants as kept
 use Rattle.geo_world.specs.World.{World, Session, Idle, Pending, region_of, published_epochs, session_of}
 use Rattle.geo_world.specs.Step.{Stepped, says, sql, run_statement, submit, show, kv_row, put_candidate, next_ticket}
 use Rattle.geo_world.specs.Lines as lines
@@ -40,18 +39,25 @@ pub says-makes : (w : World) (k : Kept) (text before after : List ℕ) (step : S
 says-makes w k text before after step s is lines = subst (λ (t : Stepped). Makes t before after k) (sym is) (record { lines = lines; world = s })
 
 pub show-makes : (w : World) (k : Kept) (number epoch : ℕ) (r : Region) (before after : List ℕ) → StandsFor w k → RegionStandsFor w number r →
-    epoch ≡ r.merging.plain.epoch → after ≡ before ++ lines.shown number epoch r.merging.plain.rows → Makes (show w number) before after k
+    epoch ≡ r.plain.epoch → after ≡ before ++ lines.shown number epoch r.plain.rows → Makes (show w number) before after k
 show-makes w k number epoch r before after s here is printed = record {
   lines = printed ∙ ap₂ (λ (e : ℕ) (rows : Table). before ++ lines.shown number e rows) (is ∙ here.published) here.merged.table;
   world = s;
 }
 
 pub select-makes : (w : World) (k : Kept) (number session : ℕ) (r : Region) (before after : List ℕ) → StandsFor w k → RegionStandsFor w number r →
-    after ≡ before ++ lines.answer number session r.merging.plain.rows → Makes (run_statement w number session Select) before after k
+    after ≡ before ++ lines.answer number session r.plain.rows → Makes (run_statement w number session Select) before after k
 select-makes w k number session r before after s here printed = record {
   lines = printed ∙ ap (λ (rows : Table). before ++ lines.answer number session rows) here.merged.table;
   world = s;
 }
+
+few_within : (session n : ℕ) → session < SESSIONS_PER_REGION → n ≡ SESSIONS_PER_REGION → session < n
+few_within session n h e = omega arith
+
+-- the region keeps the session
+pub session-within : (session : ℕ) (r : Region) (w : World) (number : ℕ) → RegionStandsFor w number r → session < SESSIONS_PER_REGION → session < vec_len r.sessions
+session-within session r w number here few = few_within session (vec_len r.sessions) few here.numbers
 
 -- a session that waits, and one that is idle
 pub session-is : (w : World) (number session : ℕ) (r : Region) (s : KeptSession) → RegionStandsFor w number r → session < SESSIONS_PER_REGION →
@@ -67,18 +73,18 @@ waits-makes w k number session statement ticket before after s is printed =
 
 -- the row of an insert is there, or not, as the merge tells
 pub row-is : (w : World) (number : ℕ) (r : Region) (row : RowId) → RegionStandsFor w number r →
-    is_some (snap_at (published_epochs w number) row) ≡ is_some (image_in r.merging.plain.rows row)
+    is_some (snap_at (published_epochs w number) row) ≡ is_some (image_in r.plain.rows row)
 row-is w number r row here =
     ap is_some (sym (image_snap (published_epochs w number) row) ∙ ap (λ (rows : Table). image_in rows row) (sym here.merged.table))
 
 pub duplicate-makes : (w : World) (k : Kept) (number session : ℕ) (key value : ℤ) (r : Region) (row : RowId) (before after : List ℕ) → StandsFor w k →
-    RegionStandsFor w number r → row ≡ kv_row key → is_some (image_in r.merging.plain.rows row) ≡ true →
+    RegionStandsFor w number r → row ≡ kv_row key → is_some (image_in r.plain.rows row) ≡ true →
     after ≡ before ++ lines.duplicate number session row → Makes (run_statement w number session (Insert key value)) before after k
 duplicate-makes w k number session key value r row before after s here is there printed =
     says-makes w k (lines.duplicate number session (kv_row key)) before after (run_statement w number session (Insert key value)) s
     (cond-true (is_some (snap_at (published_epochs w number) (kv_row key))) (says w (lines.duplicate number session (kv_row key)))
     (submit w number session (put_candidate (region_of w number).published key value))
-    (row-is w number r (kv_row key) here ∙ subst (λ (name : RowId). is_some (image_in r.merging.plain.rows name) ≡ true) is there))
+    (row-is w number r (kv_row key) here ∙ subst (λ (name : RowId). is_some (image_in r.plain.rows name) ≡ true) is there))
     (printed ∙ ap (λ (name : RowId). before ++ lines.duplicate number session name) is)
 
 -- the step of an insert whose row isn't there
@@ -93,14 +99,14 @@ insert_takes w number session key value k s h few idle absent =
 
 pub insert-makes : (w : World) (k n : Kept) (number session start : ℕ) (key value : ℤ) (ticket : CandId) (row : RowId) (old new : Region) (before after : List ℕ) →
     StandsFor w k → number < vec_len k.regions → session < SESSIONS_PER_REGION → session_of w number session ≡ Idle →
-    slice_get k.regions.items number ≡ Some old → row ≡ kv_row key → is_some (image_in old.merging.plain.rows row) ≡ false →
-    start ≡ old.merging.plain.epoch → Takes number session (put_candidate start key value) ticket old new →
+    slice_get k.regions.items number ≡ Some old → row ≡ kv_row key → is_some (image_in old.plain.rows row) ≡ false →
+    start ≡ old.plain.epoch → Takes number session (put_candidate start key value) ticket old new →
     ChangesOne number new k n → n.packets.items ≡ k.packets.items →
     after ≡ before ++ lines.changed_one number session ticket → Makes (run_statement w number session (Insert key value)) before after n
 insert-makes w k n number session start key value ticket row old new before after s h few idle at is absent starts t changes packets printed =
     subst (λ (step : Stepped). Makes step before after n)
     (sym (insert_takes w number session key value k s within few idle
-    (row-is w number old (kv_row key) here ∙ subst (λ (name : RowId). is_some (image_in old.merging.plain.rows name) ≡ false) is absent)))
+    (row-is w number old (kv_row key) here ∙ subst (λ (name : RowId). is_some (image_in old.plain.rows name) ≡ false) is absent)))
     (record {
       lines = printed ∙ ap (λ (id : CandId). before ++ lines.changed_one number session id) both.0;
       world = both.1;

@@ -1,27 +1,24 @@
 -- A packet comes to its region.
-use Rattle.std.proofs.Common.{◌≡◌, ℕ, zero, suc, ◌+◌, ◌-◌, ◌<◌, ◌≤◌, max, Bool, true, false, cond, ◌&&◌, ◌||◌, ◌==◌, nat_le, Option, None, Some, is_some, option_map, if◌then◌else◌, List, [], ◌∷◌, ◌++◌, map, length, All, set, get_or, slice_get, vec_len, refl, sym, ap, ap₂, ◌∙◌, subst, subst₂, arith, ⊎_elim, length-set, eqb-true, eq-eqb, ne_eqb, le-leb, append_assoc}
+use Rattle.std.proofs.Common.{◌≡◌, ℕ, zero, suc, ◌+◌, ◌-◌, ◌<◌, ◌≤◌, max, Bool, true, false, cond, ◌&&◌, ◌||◌, ◌==◌, nat_le, Option, None, Some, is_some, option_map, if◌then◌else◌, List, [], ◌∷◌, ◌++◌, map, length, All, get_or, slice_get, vec_len, refl, sym, ap, ap₂, ◌∙◌, subst, subst₂, arith, ⊎_elim, length-set, eqb-true, eq-eqb, ne_eqb, le-leb, append_assoc}
 use Rattle.std.proofs.lemmas.List.{append-nil}
-use Rattle.std.proofs.lemmas.Bool.{cases_eq, cond-true, cond-false, and_parts, false≢true, cases_lt, lt-leb}
+use Rattle.std.proofs.lemmas.Bool.{cases_eq, and_parts, cases_lt, lt-leb}
 use Rattle.std.proofs.lemmas.Option.{slice_get_read, slice_get-map, slice_get_within, get_or_from_slice_get}
 use Rattle.write_set.specs.declared.batch.Batch.{Batch}
-use Rattle.write_set.specs.declared.candidate.Candidate.{Candidate}
-use Rattle.write_set.specs.Journal.{Epochs, epochs_of, batch_at}
-use Rattle.write_set.specs.Plain.{IsMergeOf}
+use Rattle.write_set.specs.Journal.{epochs_of, batch_at}
+use Rattle.write_set.specs.Plain.{Merged, IsMergeOf}
 use Rattle.geo_world.specs.declared.world.World.{World as Kept}
 use Rattle.geo_world.specs.declared.region.Region.{Region}
-use Rattle.geo_world.specs.declared.inbox.Inbox.{Inbox}
-use Rattle.geo_world.specs.declared.merging.Merging.{Merging}
 use Rattle.geo_world.specs.declared.packet.Packet.{Packet as KeptPacket}
 use Rattle.geo_world.specs.declared.session.Session.{Session as KeptSession}
-use Rattle.geo_world.specs.World.{World, RegionState, Packet, BatchPacket, region_of, open_epoch, sealed_by, published_epochs, has_arrived, holds}
-use Rattle.geo_world.specs.Step.{Stepped, says, with_region, arrive, deliver, deliver_one}
+use Rattle.geo_world.specs.World.{World, RegionState, Packet, region_of, sealed_by, has_arrived, holds}
+use Rattle.geo_world.specs.Step.{Stepped, says, with_region, deliver, deliver_one}
 use Rattle.geo_world.specs.Lines as lines
 use Rattle.geo_world.specs.Sessions.{session_at}
 use Rattle.geo_world.specs.Arrivals.{batch_in, with_batch}
 use Rattle.geo_world.specs.Regions.{Receives}
 use Rattle.geo_world.specs.Standing.{StandsFor, RegionStandsFor, HoldsArrived, IsAsSealed, Makes, session_state, packet_state}
-use Rattle.geo_world.specs.Sound.{IsSound, IsSoundPacket}
-use Rattle.geo_world.proofs.SoundRegions.{IsKept, state-set_same, state-set_other}
+use Rattle.geo_world.specs.Sound.{IsSoundPacket}
+use Rattle.geo_world.proofs.SoundRegions.{state-set_same, state-set_other}
 use Rattle.geo_world.proofs.SoundMoves.{arrived-sound}
 use Rattle.geo_world.proofs.SoundSteps.{sent_packet-sound}
 use Rattle.geo_world.proofs.Spared.{arrive-takes}
@@ -61,9 +58,9 @@ arrived-stands w to batch old new h sealed t r = record {
   opens = t.opens ∙ r.opens;
   room = subst (λ (n : ℕ). n ≤ max 1 w.last) (sym t.opens) r.room;
   waiting = t.waiting ∙ (r.waiting ∙ ap (λ (s : RegionState). s.waiting) (sym same));
-  published = ap (λ (m : Merging). m.plain.epoch) t.merging ∙ (r.published ∙ ap (λ (s : RegionState). s.published) (sym same));
-  merges = ap (λ (m : Merging). m.regions) t.merging ∙ (r.merges ∙ sym (length-set w.regions to state));
-  merged = subst₂ (λ (s : RegionState) (m : Merging). IsMergeOf (epochs_of w.journal s.published) m.plain) (sym same) (sym t.merging) r.merged;
+  published = ap (λ (m : Merged). m.epoch) t.plain ∙ (r.published ∙ ap (λ (s : RegionState). s.published) (sym same));
+  merges = ap (λ (m : Merged). m.regions) t.plain ∙ (r.merges ∙ sym (length-set w.regions to state));
+  merged = subst₂ (λ (s : RegionState) (m : Merged). IsMergeOf (epochs_of w.journal s.published) m) (sym same) (sym t.plain) r.merged;
   holds = subst (λ (s : RegionState). HoldsArrived w.journal s new.inbox) (sym same) (arrived_holds w to batch old new sealed t.inbox r.holds);
   numbers = new.sessions.ok.0 ∙ (ap (λ (ss : List KeptSession). length ss) t.sessions ∙ (sym old.sessions.ok.0 ∙ r.numbers));
   sessions = λ q l. ap (λ (ss : List KeptSession). session_state (session_at ss q)) t.sessions ∙ r.sessions q l;
@@ -129,7 +126,7 @@ only_arrived own x had e = sym (ap (λ (t : Bool). (t && x) || had) e)
 -- what the program knows of a batch is what the world does
 pub known-is : (w : World) (to : ℕ) (r : Region) (batch : Batch) → RegionStandsFor w to r → (batch.region ≡ to → ⊥) →
     batch_at w.journal batch.region (batch.epoch - 1) ≡ Some batch →
-    (nat_le batch.epoch r.merging.plain.epoch || is_some (batch_in r.inbox batch.region batch.epoch))
+    (nat_le batch.epoch r.plain.epoch || is_some (batch_in r.inbox batch.region batch.epoch))
     ≡ (nat_le batch.epoch (region_of w to).published || holds w to batch.region batch.epoch)
 known-is w to r batch here other sealed =
     ap (λ (n : ℕ). nat_le batch.epoch n || is_some (batch_in r.inbox batch.region batch.epoch)) here.published
@@ -167,7 +164,7 @@ arrived_step w packet p = record { world = arrived_world w p.to p.batch.region p
 delivered : (w : World) (k : Kept) (packet : ℕ) (p : KeptPacket) (r : Region) → StandsFor w k → slice_get k.packets.items packet ≡ Some p →
     RegionStandsFor w p.to r →
     deliver_one w packet (slice_get w.packets packet)
-    ≡ (if nat_le p.batch.epoch r.merging.plain.epoch || is_some (batch_in r.inbox p.batch.region p.batch.epoch)
+    ≡ (if nat_le p.batch.epoch r.plain.epoch || is_some (batch_in r.inbox p.batch.region p.batch.epoch)
     then says w (lines.packet_known packet) else arrived_step w packet p)
 delivered w k packet p r s at here =
     ap (deliver_one w packet) (packet-read k packet p w s at)
@@ -177,7 +174,7 @@ delivered w k packet p r s at here =
 
 pub known-makes : (w : World) (k : Kept) (packet : ℕ) (p : KeptPacket) (r : Region) (before after : List ℕ) → StandsFor w k →
     slice_get k.packets.items packet ≡ Some p → RegionStandsFor w p.to r →
-    (nat_le p.batch.epoch r.merging.plain.epoch || is_some (batch_in r.inbox p.batch.region p.batch.epoch)) ≡ true →
+    (nat_le p.batch.epoch r.plain.epoch || is_some (batch_in r.inbox p.batch.region p.batch.epoch)) ≡ true →
     after ≡ before ++ lines.packet_known packet → Makes (deliver_one w packet (slice_get w.packets packet)) before after k
 known-makes w k packet p r before after s at here known printed =
     says-makes w k (lines.packet_known packet) before after (deliver_one w packet (slice_get w.packets packet)) s
@@ -187,7 +184,7 @@ known-makes w k packet p r before after s at here known printed =
 
 pub new-makes : (w : World) (k n : Kept) (packet : ℕ) (p : KeptPacket) (old new : Region) (before after : List ℕ) → StandsFor w k →
     slice_get k.packets.items packet ≡ Some p → RegionStandsFor w p.to old →
-    (nat_le p.batch.epoch old.merging.plain.epoch || is_some (batch_in old.inbox p.batch.region p.batch.epoch)) ≡ false →
+    (nat_le p.batch.epoch old.plain.epoch || is_some (batch_in old.inbox p.batch.region p.batch.epoch)) ≡ false →
     Receives p.batch old new → ChangesOne p.to new k n → n.packets.items ≡ k.packets.items →
     after ≡ before ++ lines.packet_new packet → Makes (deliver_one w packet (slice_get w.packets packet)) before after n
 new-makes w k n packet p old new before after s at here unknown t changes packets printed =

@@ -1,7 +1,6 @@
 -- The batches of an epoch, gathered one region after another.
-use Rattle.std.proofs.Common.{◌≡◌, ◌≢◌, ℕ, zero, suc, ◌+◌, ◌-◌, ◌<◌, ◌≤◌, Bool, cond, ◌==◌, Option, None, Some, List, [], ◌∷◌, ◌++◌, filter_map, slice_get, refl, sym, ap, ap₂, ◌∙◌, subst, arith, add-one, le_refl}
+use Rattle.std.proofs.Common.{◌≡◌, ℕ, ◌+◌, ◌-◌, ◌≤◌, cond, ◌==◌, Option, List, [], ◌∷◌, ◌++◌, filter_map, slice_get, sym, ap, ap₂, ◌∙◌, arith, add-one, le_refl}
 use Rattle.std.specs.List.{cons_option}
-use Rattle.std.proofs.lemmas.List.{append-nil}
 use Rattle.std.proofs.lemmas.List.Elements.{filter_map-append}
 use Rattle.write_set.specs.declared.batch.Batch.{Batch}
 use Rattle.geo_world.specs.declared.region.Region.{Region}
@@ -28,7 +27,7 @@ gathers_more start now later epoch of a b = record {
   log = b.log ∙ a.log;
   waiting = b.waiting ∙ a.waiting;
   inbox = λ q e other. b.inbox q e (λ same. other same.1) ∙ a.inbox q e other;
-  merging = b.merging ∙ a.merging;
+  plain = b.plain ∙ a.plain;
   sessions = b.sessions ∙ a.sessions;
 }
 

@@ -20,7 +20,6 @@ pub mod Taking
 pub mod Asking
 pub mod Arriving
 pub mod SendingLemmas
-pub mod LawfulLemmas
 pub mod Gathering
 pub mod Delivering
 pub mod SealingLemmas

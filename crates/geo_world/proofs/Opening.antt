@@ -1,18 +1,17 @@
 -- The program's first world stands for the world before the first event.
-use Rattle.std.proofs.Common.{◌≡◌, ℕ, ◌+◌, ◌-◌, ◌^◌, ◌<◌, ◌≤◌, max, Bool, cond, Option, None, Some, List, [], ◌∷◌, map, length, All, replicate, get_or, slice_get, vec_len, refl, sym, ap, ◌∙◌, subst, arith}
+use Rattle.std.proofs.Common.{◌≡◌, ℕ, ◌+◌, ◌^◌, ◌<◌, ◌≤◌, max, List, [], map, length, All, replicate, vec_len, sym, ap, ◌∙◌, subst, arith}
 use Rattle.std.proofs.lemmas.List.{length-replicate, get_or-replicate}
 use Rattle.std.proofs.lemmas.List.Elements.{All-nil}
 use Rattle.std.proofs.lemmas.Option.{slice_get_within, get_or_from_slice_get, unwrap_or-slice_get}
 use Rattle.geo_base.specs.declared.limits.TheConstants.{SESSIONS_PER_REGION}
-use Rattle.write_set.specs.Journal.{Epochs, epochs_of, log_of, batch_at}
+use Rattle.write_set.specs.Journal.{epochs_of, log_of}
 use Rattle.write_set.specs.declared.batch.Batch.{Batch}
 use Rattle.write_set.specs.Plain.{IsMergeOf}
 use Rattle.geo_world.specs.declared.world.World.{World as Kept}
 use Rattle.geo_world.specs.declared.region.Region.{Region}
-use Rattle.geo_world.specs.declared.packet.Packet.{Packet as KeptPacket}
 use Rattle.geo_world.specs.declared.session.Session.{Session as KeptSession}
 use Rattle.geo_world.specs.declared.session.Session.TheVariants as kept
-use Rattle.geo_world.specs.World.{World, RegionState, new_region, first_world, region_of, has_arrived}
+use Rattle.geo_world.specs.World.{World, RegionState, new_region, first_world, region_of}
 use Rattle.geo_world.specs.Sessions.{session_at}
 use Rattle.geo_world.specs.Regions.{IsNew}
 use Rattle.geo_world.specs.Standing.{StandsFor, RegionStandsFor, HoldsArrived, IsAsSealed, session_state, packet_state}
@@ -29,7 +28,7 @@ new-stands regions last number r h n = record {
   waiting = n.waiting ∙ ap (λ (s : RegionState). s.waiting) (sym same);
   published = n.published ∙ ap (λ (s : RegionState). s.published) (sym same);
   merges = n.merges ∙ sym (length-replicate regions new_region);
-  merged = subst (λ (s : RegionState). IsMergeOf (epochs_of w.journal s.published) r.merging.plain) (sym same) n.merged;
+  merged = subst (λ (s : RegionState). IsMergeOf (epochs_of w.journal s.published) r.plain) (sym same) n.merged;
   holds = subst (λ (s : RegionState). HoldsArrived w.journal s r.inbox) (sym same) (λ of epoch later. n.inbox of epoch);
   numbers = r.sessions.ok.0 ∙ (ap (λ (ss : List KeptSession). length ss) n.sessions ∙ length-replicate SESSIONS_PER_REGION kept.Idle);
   sessions = λ q few. ap session_state (ap (λ (ss : List KeptSession). session_at ss q) n.sessions

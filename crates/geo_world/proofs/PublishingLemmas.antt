@@ -1,6 +1,6 @@
 -- A region of the program that publishes an epoch stands for the region that published it.
-use Rattle.std.proofs.Common.{◌≡◌, ◌≢◌, ℕ, zero, suc, ◌+◌, ◌-◌, ◌*◌, ◌^◌, ◌<◌, ◌≤◌, max, min, Bool, true, false, not, cond, ◌&&◌, ◌||◌, ◌==◌, nat_le, nat_lt, Option, None, Some, is_some, List, [], ◌∷◌, ◌++◌, map, filter_map, length, take, All, set, get_or, slice_get, count_by, vec_len, if◌then◌else◌, refl, sym, ap, ap₂, ◌∙◌, subst, subst₂, arith, ⊎_elim, length-set, length-append, add-one, eq-eqb, ne_eqb, le_refl}
-use Rattle.std.proofs.lemmas.Bool.{cases_eq, cond-true, cond-false, ltb-false, lt-ltb, le-ltb, or_cases, and_parts, false≢true}
+use Rattle.std.proofs.Common.{◌≡◌, ℕ, zero, suc, ◌+◌, ◌-◌, ◌*◌, ◌^◌, ◌<◌, ◌≤◌, max, Bool, true, false, not, cond, ◌&&◌, ◌||◌, ◌==◌, nat_le, nat_lt, Option, None, Some, is_some, List, [], ◌∷◌, ◌++◌, map, filter_map, length, take, All, get_or, slice_get, count_by, vec_len, if◌then◌else◌, refl, sym, ap, ap₂, ◌∙◌, subst, subst₂, arith, ⊎_elim, length-set, length-append, add-one, eq-eqb, ne_eqb, le_refl}
+use Rattle.std.proofs.lemmas.Bool.{cases_eq, cond-true, cond-false, ltb-false, lt-ltb, le-ltb}
 use Rattle.std.specs.List.{cons_option}
 use Rattle.std.proofs.lemmas.Bool.Decides.{nat_tests}
 use Rattle.std.proofs.lemmas.List.{length-map, take_more}
@@ -12,7 +12,7 @@ use Rattle.geo_base.specs.declared.limits.TheConstants.{MAX_REGIONS, MAX_CANDIDA
 use Rattle.geo_base.specs.declared.outcome.Outcome.{Outcome}
 use Rattle.write_set.specs.declared.batch.Batch.{Batch}
 use Rattle.write_set.specs.declared.candidate.Candidate.{Candidate}
-use Rattle.write_set.specs.Journal.{Journal, Epochs, Placed, IsBatch, AreBatches, epochs_of, log_of, batch_at, batches_at, candidates_of, placed_from, last_sealed}
+use Rattle.write_set.specs.Journal.{Journal, Epochs, AreBatches, epochs_of, log_of, batch_at, batches_at, candidates_of, placed_from, last_sealed}
 use Rattle.write_set.specs.Merge.{verdicts, is_committed}
 use Rattle.write_set.specs.Plain.{IsMergeOf}
 use Rattle.write_set.proofs.Sealing.{batches_length, batches_lawful}
@@ -20,21 +20,21 @@ use Rattle.write_set.proofs.Placing.{length_epochs}
 use Rattle.geo_world.specs.declared.world.World.{World as Kept}
 use Rattle.geo_world.specs.declared.region.Region.{Region}
 use Rattle.geo_world.specs.declared.session.Session.{Session as KeptSession}
-use Rattle.geo_world.specs.World.{World, RegionState, region_of, sealed_by, open_epoch, published_epochs, has_arrived, holds}
-use Rattle.geo_world.specs.Step.{Stepped, says, with_region, publish, have, numbers_below}
+use Rattle.geo_world.specs.World.{World, RegionState, region_of, sealed_by, published_epochs, has_arrived, holds}
+use Rattle.geo_world.specs.Step.{Stepped, says, publish, have, numbers_below}
 use Rattle.geo_world.specs.Lines as lines
 use Rattle.geo_world.specs.Sessions.{session_at}
 use Rattle.geo_world.specs.Arrivals.{batch_in}
 use Rattle.geo_world.specs.Regions.{Publishes, IsReady, has_next, next_batch_of, next_batches}
-use Rattle.geo_world.specs.Standing.{StandsFor, RegionStandsFor, HoldsArrived, IsAsSealed, Makes, session_state, packet_state}
+use Rattle.geo_world.specs.Standing.{StandsFor, IsSomeWorld, RegionStandsFor, HoldsArrived, IsAsSealed, Makes, session_state, packet_state}
 use Rattle.geo_world.specs.Sound.{IsSound, IsSoundRegion, IsSealed}
 use Rattle.geo_world.proofs.Counting.{count-agree, count-all}
-use Rattle.geo_world.proofs.SoundRegions.{state-set_same, state-set_other}
+use Rattle.geo_world.proofs.SoundRegions.{state-set_same}
 use Rattle.geo_world.proofs.SoundMoves.{published-sound, whole-sealed}
 use Rattle.geo_world.proofs.SoundSteps.{published-le-sealed}
 use Rattle.geo_world.proofs.Moves.{published_world}
 use Rattle.geo_world.proofs.Standings.{ChangesOne, changed-stands}
-use Rattle.geo_world.proofs.Asking.{says-makes}
+use Rattle.geo_world.proofs.Asking.{says-makes, region-stands, read-same}
 use Rattle.geo_world.proofs.Delivering.{state-held}
 
 -- ---- the region
@@ -55,7 +55,7 @@ published-stands w number old new h t r = record {
   waiting = t.waiting ∙ (r.waiting ∙ ap (λ (s : RegionState). s.waiting) (sym same));
   published = t.merged.count ∙ (length_epochs w.journal (p + 1) ∙ ap (λ (s : RegionState). s.published) (sym same));
   merges = t.merges ∙ (r.merges ∙ sym (length-set w.regions number state));
-  merged = subst (λ (s : RegionState). IsMergeOf (epochs_of w.journal s.published) new.merging.plain) (sym same) t.merged;
+  merged = subst (λ (s : RegionState). IsMergeOf (epochs_of w.journal s.published) new.plain) (sym same) t.merged;
   holds = subst (λ (s : RegionState). HoldsArrived w.journal s new.inbox) (sym same)
       (λ of epoch later. t.inbox of epoch (other_epoch p epoch later) ∙ r.holds of epoch (later_epoch p epoch later));
   numbers = new.sessions.ok.0 ∙ (ap (λ (ss : List KeptSession). length ss) t.sessions ∙ (sym old.sessions.ok.0 ∙ r.numbers));
@@ -129,10 +129,11 @@ next-is w number epoch r d s h here is of =
     after_published e p q = omega arith
 
 -- as many of them as the world says
-pub have-is : (w : World) (number epoch : ℕ) (r : Region) (d : Batch) → IsSound w → number < length w.regions → RegionStandsFor w number r →
-    epoch ≡ (region_of w number).published + 1 → count_by (has_next r number epoch) (numbers_below r.merging.regions) ≡ have w number epoch
-have-is w number epoch r d s h here is =
-    ap (λ (n : ℕ). count_by (has_next r number epoch) (numbers_below n)) here.merges
+pub have-is : (w : World) (number epoch regions : ℕ) (r : Region) (d : Batch) → IsSound w → number < length w.regions → RegionStandsFor w number r →
+    epoch ≡ (region_of w number).published + 1 → regions ≡ length w.regions →
+    count_by (has_next r number epoch) (numbers_below regions) ≡ have w number epoch
+have-is w number epoch regions r d s h here is all =
+    ap (λ (n : ℕ). count_by (has_next r number epoch) (numbers_below n)) all
     ∙ count-agree (has_next r number epoch) (λ q. holds w number q epoch) (length w.regions) (λ q l. next-is w number epoch r d s h here is q)
 
 -- ---- the batches that are gathered
@@ -172,11 +173,11 @@ gathered_is w number epoch p of r here is at held =
     came : (own x had : Bool) → own ≡ false → ((own && x) || had) ≡ true → had ≡ true
     came own x had a b = sym (ap (λ (t : Bool). (t && x) || had) a) ∙ b
 
-pub gathered-are : (w : World) (number epoch p : ℕ) (r : Region) → IsSound w → number < length w.regions → RegionStandsFor w number r →
-    epoch ≡ p + 1 → (region_of w number).published ≡ p → nat_lt (have w number epoch) (length w.regions) ≡ false →
-    next_batches r number epoch ≡ batches_at w.journal p
-gathered-are w number epoch p r s h here is at whole =
-    ap (λ (n : ℕ). filter_map (next_batch_of r number epoch) (numbers_below n)) (here.merges ∙ sym s.same)
+pub gathered-are : (w : World) (number epoch regions p : ℕ) (r : Region) → IsSound w → number < length w.regions → RegionStandsFor w number r →
+    epoch ≡ p + 1 → (region_of w number).published ≡ p → regions ≡ length w.regions → nat_lt (have w number epoch) (length w.regions) ≡ false →
+    next_batches r regions number epoch ≡ batches_at w.journal p
+gathered-are w number epoch regions p r s h here is at all whole =
+    ap (λ (n : ℕ). filter_map (next_batch_of r number epoch) (numbers_below n)) (all ∙ sym s.same)
     ∙ (mapped_places (next_batch_of r number epoch) (λ log. slice_get log p) w.journal (length w.journal) (le_refl (length w.journal))
     (λ q l. gathered_is w number epoch p q r here is at
     (count-all (λ of. holds w number of epoch) (length w.regions) (ltb-false (have w number epoch) (length w.regions) whole) q
@@ -186,13 +187,12 @@ gathered-are w number epoch p r s h here is at whole =
 last_place : (p n : ℕ) → p + 1 ≤ n → p < n
 last_place p n h = omega arith
 
-pub is-ready : (w : World) (number epoch : ℕ) (r : Region) → IsSound w → w.last < 2 ^ 32 → number < length w.regions → RegionStandsFor w number r →
-    epoch ≡ (region_of w number).published + 1 → nat_lt (have w number epoch) (length w.regions) ≡ false →
-    IsReady (published_epochs w number) number epoch r
-is-ready w number epoch r s short h here is whole = record {
+pub is-ready : (w : World) (number epoch regions : ℕ) (r : Region) → IsSound w → w.last < 2 ^ 32 → number < length w.regions → RegionStandsFor w number r →
+    epoch ≡ (region_of w number).published + 1 → regions ≡ length w.regions → nat_lt (have w number epoch) (length w.regions) ≡ false →
+    IsReady regions number epoch r
+is-ready w number epoch regions r s short h here is count whole = record {
   next = is ∙ ap (λ (n : ℕ). n + 1) (sym here.published);
   room = fits epoch p (sealed_by w number) r.open w.last is (published-le-sealed w number s h) here.opens here.room short;
-  merged = here.merged;
   all = ap (λ (bs : List Batch). length bs) same ∙ (batches_length w.journal p below ∙ (s.same ∙ sym here.merges));
   lawful = subst₂ (λ (e : ℕ) (bs : List Batch). AreBatches 0 e bs) (sym is) (sym same) (batches_lawful w.journal p s.lawful below);
 }
@@ -203,8 +203,8 @@ is-ready w number epoch r s short h here is whole = record {
     below : p < last_sealed w.journal
     below = last_place p (last_sealed w.journal) (subst (λ (e : ℕ). e ≤ last_sealed w.journal) is (whole-sealed w number epoch s h whole))
 
-    same : next_batches r number epoch ≡ batches_at w.journal p
-    same = gathered-are w number epoch p r s h here is refl whole
+    same : next_batches r regions number epoch ≡ batches_at w.journal p
+    same = gathered-are w number epoch regions p r s h here is refl count whole
 
     fits : (e q n o l : ℕ) → e ≡ q + 1 → q ≤ n → o ≡ n + 1 → o ≤ max 1 l → l < 2 ^ 32 → e < 2 ^ 32
     fits e q n o l a b c d f = omega arith
@@ -214,15 +214,20 @@ is-ready w number epoch r s short h here is whole = record {
 no_batch : Batch
 no_batch = record { region = 0; epoch = 0; items = [] }
 
-capped : (m e p n o l : ℕ) → m ≡ p → e ≡ min (m + 1) 4294967295 → p ≤ n → o ≡ n + 1 → o ≤ max 1 l → l < 2 ^ 32 → e ≡ p + 1
-capped m e p n o l a b c d f g = omega arith
+one_more_fits : (m p n o l : ℕ) → m ≡ p → p ≤ n → o ≡ n + 1 → o ≤ max 1 l → l < 2 ^ 32 → m + 1 < 2 ^ 32
+one_more_fits m p n o l a b c d f = omega arith
+
+-- the epoch after the last that is published has 32 bits
+pub next-fits : (w : World) (k : Kept) (number : ℕ) (r : Region) → StandsFor w k → number < vec_len k.regions → RegionStandsFor w number r →
+    r.plain.epoch + 1 < 2 ^ 32
+next-fits w k number r s h here =
+    one_more_fits r.plain.epoch (region_of w number).published (sealed_by w number) r.open w.last here.published
+    (published-le-sealed w number s.sound (subst (λ (m : ℕ). number < m) s.count h)) here.opens here.room s.short
 
 -- the epoch that the program publishes next
-pub next-epoch-is : (w : World) (number epoch : ℕ) (r : Region) → IsSound w → w.last < 2 ^ 32 → number < length w.regions → RegionStandsFor w number r →
-    epoch ≡ min (r.merging.plain.epoch + 1) 4294967295 → epoch ≡ (region_of w number).published + 1
-next-epoch-is w number epoch r s short h here is =
-    capped r.merging.plain.epoch epoch (region_of w number).published (sealed_by w number) r.open w.last here.published is
-    (published-le-sealed w number s h) here.opens here.room short
+pub next-epoch-is : (w : World) (number epoch : ℕ) (r : Region) → RegionStandsFor w number r →
+    epoch ≡ r.plain.epoch + 1 → epoch ≡ (region_of w number).published + 1
+next-epoch-is w number epoch r here is = is ∙ ap (λ (n : ℕ). n + 1) here.published
 
 abbrev published_outcomes : World → ℕ → List Outcome
 published_outcomes w number = verdicts (epochs_of w.journal ((region_of w number).published + 1))
@@ -239,8 +244,8 @@ abbrev waits_step : World → ℕ → ℕ → Stepped
 waits_step w number epoch = says w (lines.region_waits number epoch (have w number epoch) (length w.regions))
 
 pub region-waits-makes : (w : World) (k : Kept) (number epoch found regions : ℕ) (r : Region) (before after : List ℕ) → StandsFor w k →
-    number < vec_len k.regions → RegionStandsFor w number r → epoch ≡ min (r.merging.plain.epoch + 1) 4294967295 →
-    found ≡ count_by (has_next r number epoch) (numbers_below r.merging.regions) → regions ≡ r.merging.regions → found < regions →
+    number < vec_len k.regions → RegionStandsFor w number r → epoch ≡ r.plain.epoch + 1 →
+    found ≡ count_by (has_next r number epoch) (numbers_below regions) → regions ≡ vec_len k.regions → found < regions →
     after ≡ before ++ lines.region_waits number epoch found regions → Makes (publish w number) before after k
 region-waits-makes w k number epoch found regions r before after s h here is count all few printed =
     says-makes w k (lines.region_waits number epoch (have w number epoch) (length w.regions)) before after (publish w number) s
@@ -253,13 +258,13 @@ region-waits-makes w k number epoch found regions r before after s h here is cou
     within = subst (λ (m : ℕ). number < m) s.count h
 
     next : epoch ≡ (region_of w number).published + 1
-    next = next-epoch-is w number epoch r s.sound s.short within here is
-
-    found_is : found ≡ have w number epoch
-    found_is = count ∙ have-is w number epoch r no_batch s.sound within here next
+    next = next-epoch-is w number epoch r here is
 
     regions_are : regions ≡ length w.regions
-    regions_are = all ∙ here.merges
+    regions_are = all ∙ s.count
+
+    found_is : found ≡ have w number epoch
+    found_is = count ∙ have-is w number epoch regions r no_batch s.sound within here next regions_are
 
 -- ---- counts
 
@@ -278,12 +283,12 @@ candidates_few region epoch (b ∷ bs) all =
     (subst (λ (n : ℕ). n ≤ MAX_CANDIDATES) (sym (placed_count b.region 0 b.items)) all.0.few)
     (candidates_few (region + 1) epoch bs all.1)
 
-count_fits : (count n m regions : ℕ) → count ≤ n → n ≡ m → m ≤ MAX_CANDIDATES * regions → regions ≤ MAX_REGIONS → min count 4294967295 ≡ count
+count_fits : (count n m regions : ℕ) → count ≤ n → n ≡ m → m ≤ MAX_CANDIDATES * regions → regions ≤ MAX_REGIONS → count < 2 ^ 32
 count_fits count n m regions a b c d = omega arith
 
 -- a count of verdicts fits 32 bits
 verdicts_fit : (test : Outcome → Bool) (epoch : ℕ) (bs : List Batch) (older : Epochs) (regions : ℕ) → AreBatches 0 epoch bs → length bs ≡ regions →
-    regions ≤ MAX_REGIONS → min (count_by test (verdicts (candidates_of bs ∷ older))) 4294967295 ≡ count_by test (verdicts (candidates_of bs ∷ older))
+    regions ≤ MAX_REGIONS → count_by test (verdicts (candidates_of bs ∷ older)) < 2 ^ 32
 verdicts_fit test epoch bs older regions all count few =
     count_fits (count_by test (verdicts (candidates_of bs ∷ older))) (length (verdicts (candidates_of bs ∷ older))) (length (candidates_of bs)) regions
     (count_by-le-length test (verdicts (candidates_of bs ∷ older)))
@@ -294,28 +299,70 @@ verdicts_fit test epoch bs older regions all count few =
 whole_is : (found regions a b : ℕ) → regions ≤ found → found ≡ a → regions ≡ b → b ≤ a
 whole_is found regions a b h p q = omega arith
 
+-- where the batch of every region is here, the region may publish
+pub all-ready : (w : World) (k : Kept) (number epoch found regions : ℕ) (r : Region) → StandsFor w k → number < vec_len k.regions → RegionStandsFor w number r →
+    epoch ≡ r.plain.epoch + 1 → found ≡ count_by (has_next r number epoch) (numbers_below regions) → regions ≡ vec_len k.regions → regions ≤ found →
+    (nat_lt (have w number epoch) (length w.regions) ≡ false) × IsReady regions number epoch r
+all-ready w k number epoch found regions r s h here is count all enough = (whole, is-ready w number epoch regions r s.sound s.short within here next (all ∙ s.count) whole)
+  where
+    within : number < length w.regions
+    within = subst (λ (m : ℕ). number < m) s.count h
+
+    next : epoch ≡ (region_of w number).published + 1
+    next = next-epoch-is w number epoch r here is
+
+    whole : nat_lt (have w number epoch) (length w.regions) ≡ false
+    whole = le-ltb (have w number epoch) (length w.regions)
+        (whole_is found regions (have w number epoch) (length w.regions) enough
+        (count ∙ have-is w number epoch regions r no_batch s.sound within here next (all ∙ s.count)) (all ∙ s.count))
+
+-- so few verdicts are told that 32 bits count them
+pub verdicts-fit : (test : Outcome → Bool) (w : World) (k : Kept) (number epoch regions : ℕ) (r : Region) (outcomes : List Outcome) → StandsFor w k →
+    RegionStandsFor w number r → IsReady regions number epoch r →
+    outcomes ≡ verdicts (candidates_of (next_batches r regions number epoch) ∷ published_epochs w number) → count_by test outcomes < 2 ^ 32
+verdicts-fit test w k number epoch regions r outcomes s here ready told =
+    subst (λ (os : List Outcome). count_by test os < 2 ^ 32) (sym told)
+    (verdicts_fit test epoch (next_batches r regions number epoch) (published_epochs w number) (length w.regions) ready.lawful (ready.all ∙ here.merges) s.sound.few)
+
+-- what one read of the region tells, the next does too
+pub read-ready : (k : Kept) (number epoch found regions : ℕ) (r q : Region) → IsSomeWorld k → number < vec_len k.regions →
+    r ≡ get_or k.regions.items number r → q ≡ get_or k.regions.items number q → epoch ≡ r.plain.epoch + 1 →
+    found ≡ count_by (has_next r number epoch) (numbers_below regions) → regions ≡ vec_len k.regions → regions ≤ found → IsReady regions number epoch q
+read-ready k number epoch found regions r q some h a b is count all enough =
+    subst (λ (x : Region). IsReady regions number epoch x) (read-same k number r q h a b)
+    (all-ready some.0 k number epoch found regions r some.1 h (region-stands some.0 k number r some.1 h a) is count all enough).1
+
+pub read-fits : (test : Outcome → Bool) (k : Kept) (number epoch regions : ℕ) (r : Region) (outcomes : List Outcome) → IsSomeWorld k → number < vec_len k.regions →
+    r ≡ get_or k.regions.items number r → IsReady regions number epoch r →
+    ((epochs : Epochs) → IsMergeOf epochs r.plain → outcomes ≡ verdicts (candidates_of (next_batches r regions number epoch) ∷ epochs)) →
+    count_by test outcomes < 2 ^ 32
+read-fits test k number epoch regions r outcomes some h at ready told =
+    verdicts-fit test some.0 k number epoch regions r outcomes some.1 here ready (told (published_epochs some.0 number) here.merged)
+  where
+    here : RegionStandsFor some.0 number r
+    here = region-stands some.0 k number r some.1 h at
+
 pub published-makes : (w : World) (k n : Kept) (number epoch found regions commits aborts : ℕ) (outcomes : List Outcome) (old new : Region) (before after : List ℕ) →
     StandsFor w k → number < vec_len k.regions → slice_get k.regions.items number ≡ Some old →
-    epoch ≡ min (old.merging.plain.epoch + 1) 4294967295 →
-    found ≡ count_by (has_next old number epoch) (numbers_below old.merging.regions) → regions ≡ old.merging.regions → regions ≤ found →
-    ((epochs : Epochs) → IsReady epochs number epoch old → outcomes ≡ verdicts (candidates_of (next_batches old number epoch) ∷ epochs)) →
-    ((epochs : Epochs) → IsReady epochs number epoch old → Publishes (candidates_of (next_batches old number epoch) ∷ epochs) epoch old new) →
+    epoch ≡ old.plain.epoch + 1 →
+    found ≡ count_by (has_next old number epoch) (numbers_below regions) → regions ≡ vec_len k.regions → regions ≤ found →
+    ((epochs : Epochs) → IsMergeOf epochs old.plain → outcomes ≡ verdicts (candidates_of (next_batches old regions number epoch) ∷ epochs)) →
+    ((epochs : Epochs) → IsMergeOf epochs old.plain → Publishes (candidates_of (next_batches old regions number epoch) ∷ epochs) epoch old new) →
     ChangesOne number new k n → n.packets.items ≡ k.packets.items →
-    commits ≡ min (count_by is_committed outcomes) 4294967295 → aborts ≡ min (count_by (λ o. not (is_committed o)) outcomes) 4294967295 →
+    commits ≡ count_by is_committed outcomes → aborts ≡ count_by (λ o. not (is_committed o)) outcomes →
     after ≡ before ++ lines.epoch_published number epoch commits aborts → Makes (publish w number) before after n
 published-makes w k n number epoch found regions commits aborts outcomes old new before after s h at is count all enough told published changes packets
     committed aborted printed =
     subst (λ (step : Stepped). Makes step before after n) (sym step_is)
     (record {
       lines = printed ∙ (ap₂ (λ (a b : ℕ). before ++ lines.epoch_published number epoch a b)
-          (committed ∙ (ap (λ (os : List Outcome). min (count_by is_committed os) 4294967295) outcomes_are ∙ (fit is_committed ∙ ap (count_by is_committed) same_outcomes)))
-          (aborted ∙ (ap (λ (os : List Outcome). min (count_by (λ o. not (is_committed o)) os) 4294967295) outcomes_are
-          ∙ (fit (λ o. not (is_committed o)) ∙ ap (count_by (λ o. not (is_committed o))) same_outcomes)))
+          (committed ∙ ap (count_by is_committed) outcomes_are)
+          (aborted ∙ ap (count_by (λ o. not (is_committed o))) outcomes_are)
           ∙ ap (λ (e : ℕ). before ++ lines.epoch_published number e (count_by is_committed (published_outcomes w number))
           (count_by (λ o. not (is_committed o)) (published_outcomes w number))) next);
       world = changed-stands w (published_world w number) k n number new s changes
           (published-stands w number old new within
-          (subst₂ (λ (es : Epochs) (e : ℕ). Publishes es e old new) epochs_are next (published (published_epochs w number) ready)) here)
+          (subst₂ (λ (es : Epochs) (e : ℕ). Publishes es e old new) epochs_are next (published (published_epochs w number) here.merged)) here)
           (λ q other below. state-held w number state q other)
           (published-sound w number within (subst (λ (e : ℕ). nat_lt (have w number e) (length w.regions) ≡ false) next whole) s.sound)
           refl
@@ -337,28 +384,18 @@ published-makes w k n number epoch found regions commits aborts outcomes old new
     here = s.regions number old at
 
     next : epoch ≡ (region_of w number).published + 1
-    next = next-epoch-is w number epoch old s.sound s.short within here is
+    next = next-epoch-is w number epoch old here is
 
     whole : nat_lt (have w number epoch) (length w.regions) ≡ false
-    whole = le-ltb (have w number epoch) (length w.regions)
-        (whole_is found regions (have w number epoch) (length w.regions) enough (count ∙ have-is w number epoch old no_batch s.sound within here next) (all ∙ here.merges))
+    whole = (all-ready w k number epoch found regions old s h here is count all enough).0
 
-    ready : IsReady (published_epochs w number) number epoch old
-    ready = is-ready w number epoch old s.sound s.short within here next whole
-
-    outcomes_are : outcomes ≡ verdicts (candidates_of (next_batches old number epoch) ∷ published_epochs w number)
-    outcomes_are = told (published_epochs w number) ready
-
-    epochs_are : candidates_of (next_batches old number epoch) ∷ published_epochs w number ≡ epochs_of w.journal ((region_of w number).published + 1)
-    epochs_are = ap (λ (bs : List Batch). candidates_of bs ∷ published_epochs w number) (gathered-are w number epoch p old s.sound within here next refl whole)
+    epochs_are : candidates_of (next_batches old regions number epoch) ∷ published_epochs w number ≡ epochs_of w.journal ((region_of w number).published + 1)
+    epochs_are = ap (λ (bs : List Batch). candidates_of bs ∷ published_epochs w number)
+        (gathered-are w number epoch regions p old s.sound within here next refl (all ∙ s.count) whole)
         ∙ ap (epochs_of w.journal) (sym (add-one p))
 
-    same_outcomes : verdicts (candidates_of (next_batches old number epoch) ∷ published_epochs w number) ≡ published_outcomes w number
-    same_outcomes = ap verdicts epochs_are
-
-    fit : (test : Outcome → Bool) → min (count_by test (verdicts (candidates_of (next_batches old number epoch) ∷ published_epochs w number))) 4294967295
-        ≡ count_by test (verdicts (candidates_of (next_batches old number epoch) ∷ published_epochs w number))
-    fit test = verdicts_fit test epoch (next_batches old number epoch) (published_epochs w number) (length w.regions) ready.lawful (ready.all ∙ here.merges) s.sound.few
+    outcomes_are : outcomes ≡ published_outcomes w number
+    outcomes_are = told (published_epochs w number) here.merged ∙ ap verdicts epochs_are
 
     step_is : publish w number ≡ published_step w number
     step_is = cond-false (nat_lt (have w number ((region_of w number).published + 1)) (length w.regions))

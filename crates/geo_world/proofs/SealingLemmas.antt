@@ -1,24 +1,23 @@
 -- A region of the program that seals its batch stands for the region that sealed it.
-use Rattle.std.proofs.Common.{◌≡◌, ℕ, zero, suc, ◌+◌, ◌-◌, ◌<◌, ◌≤◌, max, min, Result, Ok, Err, OnOk, Bool, true, false, cond, nat_le, Option, None, Some, List, [], ◌∷◌, ◌++◌, map, length, All, set, get_or, slice_get, vec_len, if◌then◌else◌, refl, sym, ap, ap₂, ◌∙◌, subst, subst₂, arith, ⊎_elim, length-set, append_assoc, le_refl, le-leb, get_or-set_same}
-use Rattle.std.proofs.lemmas.Bool.{cases_eq, cond-true, cond-false, lt-leb}
+use Rattle.std.proofs.Common.{◌≡◌, ℕ, zero, ◌+◌, ◌-◌, ◌<◌, ◌≤◌, max, ◌^◌, Result, Ok, Err, OnOk, true, false, nat_le, None, Some, List, [], ◌∷◌, ◌++◌, map, length, All, set, get_or, slice_get, vec_len, refl, sym, ap, ap₂, ◌∙◌, subst, subst₂, arith, length-set, append_assoc, le-leb, get_or-set_same}
+use Rattle.std.proofs.lemmas.Bool.{cond-true, cond-false, lt-leb}
 use Rattle.std.proofs.lemmas.Bool.Decides.{nat_tests}
 use Rattle.std.proofs.lemmas.List.{length_push, map-append, length-map}
 use Rattle.std.proofs.lemmas.Simd.{map-map}
 use Rattle.std.proofs.lemmas.List.Elements.{All-append, All-map, All-weaker, All-from_get_or}
-use Rattle.std.proofs.lemmas.Option.{slice_get-get_or, same_Some}
+use Rattle.std.proofs.lemmas.Option.{slice_get-get_or, slice_get_read, same_Some}
 use Rattle.geo_base.specs.declared.limits.TheConstants.{MAX_AHEAD, SESSIONS_PER_REGION}
 use Rattle.write_set.specs.declared.batch.Batch.{Batch}
 use Rattle.write_set.specs.declared.candidate.Candidate.{Candidate}
-use Rattle.write_set.specs.Journal.{Journal, Epochs, epochs_of, log_of, batch_at, last_sealed}
-use Rattle.write_set.specs.Plain.{IsMergeOf}
+use Rattle.write_set.specs.Journal.{Journal, Epochs, epochs_of, log_of, batch_at}
+use Rattle.write_set.specs.Plain.{Merged, IsMergeOf}
 use Rattle.write_set.proofs.Sealing.{with_batch_epochs, with_batch_old, with_batch_new, with_batch_sealed}
 use Rattle.geo_world.specs.declared.world.World.{World as Kept}
 use Rattle.geo_world.specs.declared.region.Region.{Region}
 use Rattle.geo_world.specs.declared.inbox.Inbox.{Inbox}
-use Rattle.geo_world.specs.declared.merging.Merging.{Merging}
 use Rattle.geo_world.specs.declared.packet.Packet.{Packet as KeptPacket}
 use Rattle.geo_world.specs.declared.session.Session.{Session as KeptSession}
-use Rattle.geo_world.specs.World.{World, RegionState, Packet, BatchPacket, region_of, sealed_by, open_epoch, published_epochs, has_arrived}
+use Rattle.geo_world.specs.World.{World, RegionState, Packet, BatchPacket, region_of, sealed_by, open_epoch, has_arrived}
 use Rattle.geo_world.specs.Step.{Stepped, says, seal, sealed_world, next_batch, others, sent_lines}
 use Rattle.geo_world.specs.Lines as lines
 use Rattle.geo_world.specs.Sessions.{session_at}
@@ -26,7 +25,7 @@ use Rattle.geo_world.specs.Sending.{packet_with}
 use Rattle.geo_world.specs.Regions.{Seals}
 use Rattle.geo_world.specs.Standing.{StandsFor, RegionStandsFor, HoldsArrived, IsAsSealed, Makes, session_state, packet_state}
 use Rattle.geo_world.specs.Sound.{IsSound, IsSoundRegion, IsSealed}
-use Rattle.geo_world.proofs.SoundRegions.{IsKept, state-set_same, state-set_other}
+use Rattle.geo_world.proofs.SoundRegions.{state-set_same, state-set_other}
 use Rattle.geo_world.proofs.SoundSeal.{sealed_world-sound, waiting-few, log-pushed_same, log-pushed_other, log-pushed_grows}
 use Rattle.geo_world.proofs.Standings.{IsHeld, ChangesOne, changed-stands, same_then}
 use Rattle.geo_world.proofs.Asking.{says-makes}
@@ -76,12 +75,12 @@ sealed-stands w number old new s h last t r = record {
       (ap (λ (l : List Batch). length l) log ∙ length_push (log_of w.journal number) (next_batch w number));
   room = next_room new.open old.open w.last t.opens last;
   waiting = t.waiting ∙ ap (λ (st : RegionState). st.waiting) (sym same);
-  published = ap (λ (m : Merging). m.plain.epoch) t.merging ∙ (r.published ∙ ap (λ (st : RegionState). st.published) (sym same));
-  merges = ap (λ (m : Merging). m.regions) t.merging ∙ (r.merges ∙ sym (length-set w.regions number state));
-  merged = subst₂ (λ (es : Epochs) (m : Merging). IsMergeOf es m.plain)
+  published = ap (λ (m : Merged). m.epoch) t.plain ∙ (r.published ∙ ap (λ (st : RegionState). st.published) (sym same));
+  merges = ap (λ (m : Merged). m.regions) t.plain ∙ (r.merges ∙ sym (length-set w.regions number state));
+  merged = subst₂ (λ (es : Epochs) (m : Merged). IsMergeOf es m)
       (sym (ap (λ (st : RegionState). epochs_of v.journal st.published) same
       ∙ with_batch_epochs w.journal number (next_batch w number) (region_of w number).published (s.regions number h).published))
-      (sym t.merging) r.merged;
+      (sym t.plain) r.merged;
   holds = subst₂ (λ (st : RegionState) (i : Inbox). HoldsArrived v.journal st i) (sym same) (sym t.inbox)
       (holds_later w.journal v.journal state old.inbox (λ of epoch a. arrived_stays w number number of epoch (s.regions number h) a) r.holds);
   numbers = new.sessions.ok.0 ∙ (ap (λ (ss : List KeptSession). length ss) t.sessions ∙ (sym old.sessions.ok.0 ∙ r.numbers));
@@ -171,9 +170,9 @@ ahead_same : (p s o : ℕ) → o ≡ s + 1 → nat_le (MAX_AHEAD + p + 1) o ≡ 
 ahead_same p s o e = grind (arith, nat_tests)
 
 ahead_is : (w : World) (number : ℕ) (r : Region) → RegionStandsFor w number r →
-    nat_le (MAX_AHEAD + r.merging.plain.epoch + 1) r.open ≡ nat_le MAX_AHEAD (sealed_by w number - (region_of w number).published)
+    nat_le (MAX_AHEAD + r.plain.epoch + 1) r.open ≡ nat_le MAX_AHEAD (sealed_by w number - (region_of w number).published)
 ahead_is w number r here =
-    ahead_same r.merging.plain.epoch (sealed_by w number) r.open here.opens
+    ahead_same r.plain.epoch (sealed_by w number) r.open here.opens
     ∙ ap (λ (p : ℕ). nat_le MAX_AHEAD (sealed_by w number - p)) here.published
 
 early_is : (w : World) (k : Kept) (number : ℕ) (r : Region) → StandsFor w k → RegionStandsFor w number r → r.open < k.last →
@@ -181,7 +180,7 @@ early_is : (w : World) (k : Kept) (number : ℕ) (r : Region) → StandsFor w k 
 early_is w k number r s here early = lt-leb w.last (open_epoch w number) (subst₂ (λ (a b : ℕ). a < b) here.opens s.last early)
 
 pub ahead-makes : (w : World) (k : Kept) (number : ℕ) (r : Region) (before after : List ℕ) → StandsFor w k → RegionStandsFor w number r →
-    r.open < k.last → nat_le (MAX_AHEAD + r.merging.plain.epoch + 1) r.open ≡ true →
+    r.open < k.last → nat_le (MAX_AHEAD + r.plain.epoch + 1) r.open ≡ true →
     after ≡ before ++ lines.seal_ahead number → Makes (seal w number) before after k
 ahead-makes w k number r before after s here early ahead printed =
     says-makes w k (lines.seal_ahead number) before after (seal w number) s
@@ -199,23 +198,30 @@ sealed_step w number = record {
 }
 
 seal_is : (w : World) (k : Kept) (number : ℕ) (r : Region) → StandsFor w k → RegionStandsFor w number r → r.open < k.last →
-    nat_le (MAX_AHEAD + r.merging.plain.epoch + 1) r.open ≡ false → seal w number ≡ sealed_step w number
+    nat_le (MAX_AHEAD + r.plain.epoch + 1) r.open ≡ false → seal w number ≡ sealed_step w number
 seal_is w k number r s here early behind =
     cond-false (nat_le w.last (open_epoch w number)) (says w (lines.seal_last number)) _ (early_is w k number r s here early)
     ∙ cond-false (nat_le MAX_AHEAD (sealed_by w number - (region_of w number).published)) (says w (lines.seal_ahead number)) (sealed_step w number)
     (sym (ahead_is w number r here) ∙ behind)
 
-small_count : (n m : ℕ) → n ≡ m → m ≤ SESSIONS_PER_REGION → min n 4294967295 ≡ m
-small_count n m e h = omega arith
+few_fit : (l n m : ℕ) → l ≡ n → n ≡ m → m ≤ SESSIONS_PER_REGION → l < 2 ^ 32
+few_fit l n m a b h = omega arith
+
+-- so few candidates wait that 32 bits count them
+pub waiting-fits : (w : World) (k : Kept) (number : ℕ) (r : Region) → StandsFor w k → number < vec_len k.regions → RegionStandsFor w number r →
+    vec_len r.waiting < 2 ^ 32
+waiting-fits w k number r s h here =
+    few_fit (vec_len r.waiting) (length r.waiting.items) (length (region_of w number).waiting) r.waiting.ok.0 (ap (λ (cs : List Candidate). length cs) here.waiting)
+    (waiting-few w number (s.sound.regions number (subst (λ (m : ℕ). number < m) s.count h)))
 
 packet_count : (w : World) (k : Kept) → StandsFor w k → vec_len k.packets ≡ length w.packets
 packet_count w k s = k.packets.ok.0 ∙ (sym (length-map k.packets.items packet_state) ∙ ap (λ (ps : List Packet). length ps) s.packets)
 
 pub sealed-makes : (w : World) (k n : Kept) (number count regions : ℕ) (old new : Region) (b : Batch) (before middle after : List ℕ) → StandsFor w k →
     number < vec_len k.regions → slice_get k.regions.items number ≡ Some old → old.open < k.last →
-    nat_le (MAX_AHEAD + old.merging.plain.epoch + 1) old.open ≡ false → Seals number old new → ChangesOne number new k n →
+    nat_le (MAX_AHEAD + old.plain.epoch + 1) old.open ≡ false → Seals number old new → ChangesOne number new k n →
     b ≡ record { region = number; epoch = old.open; items = old.waiting.items } →
-    count ≡ min (length old.waiting.items) 4294967295 → regions ≡ old.merging.regions →
+    count ≡ length old.waiting.items → regions ≡ vec_len k.regions →
     n.packets.items ≡ k.packets.items ++ map (packet_with b) (others regions b.region) →
     middle ≡ before ++ lines.batch_sealed number old.open count →
     after ≡ middle ++ sent_lines (vec_len k.packets) (others regions b.region) → Makes (seal w number) before after n
@@ -226,8 +232,7 @@ sealed-makes w k n number count regions old new b before middle after s h at ear
           ∙ (append_assoc before (lines.batch_sealed number old.open count) (sent_lines (vec_len k.packets) (others regions b.region))
           ∙ ap₂ (λ (x y : List ℕ). before ++ (x ++ y))
           (ap₂ (λ (e c : ℕ). lines.batch_sealed number e c) here.opens
-          (counted ∙ small_count (length old.waiting.items) (length (region_of w number).waiting) (ap (λ (cs : List Candidate). length cs) here.waiting)
-          (waiting-few w number (s.sound.regions number within))))
+          (counted ∙ ap (λ (cs : List Candidate). length cs) here.waiting))
           (ap₂ (λ (p : ℕ) (tos : List ℕ). sent_lines p tos) (packet_count w k s) tos)));
       world = changed-stands w (sealed_world w number) k n number new s changes
           (sealed-stands w number old new s.sound within (subst (λ (l : ℕ). old.open < l) s.last early) t here)
@@ -251,7 +256,7 @@ sealed-makes w k n number count regions old new b before middle after s h at ear
     here = s.regions number old at
 
     tos : others regions b.region ≡ others (length w.regions) number
-    tos = ap₂ (λ (m r : ℕ). others m r) (some ∙ here.merges) (ap (λ (x : Batch). x.region) is)
+    tos = ap₂ (λ (m r : ℕ). others m r) (some ∙ s.count) (ap (λ (x : Batch). x.region) is)
 
 slice_get-pushed : (xs : List Batch) (x : Batch) → slice_get (xs ++ x ∷ []) (length xs) ≡ Some x
 slice_get-pushed [] x = refl
@@ -261,13 +266,34 @@ slice_get-pushed (y ∷ xs) x = slice_get-pushed xs x
 pub last-of : (xs : List Batch) (x : Batch) → slice_get (xs ++ x ∷ []) (length (xs ++ x ∷ []) - 1) ≡ Some x
 last-of xs x = ap (slice_get (xs ++ x ∷ [])) (ap (λ (n : ℕ). n - 1) (length_push xs x) ∙ one_back (length xs)) ∙ slice_get-pushed xs x
 
-pub last-batch : (items : List Region) (number : ℕ) (old new r : Region) (bs : List Batch) (b : Batch) → number < length items →
-    r ≡ get_or (set items number new) number r → bs ≡ r.log.items → Seals number old new → Some b ≡ slice_get bs (length bs - 1) →
+-- the log of the region that has sealed
+log_after : (items : List Region) (number : ℕ) (old new r : Region) → number < length items → r ≡ get_or (set items number new) number r → Seals number old new →
+    r.log.items ≡ old.log.items ++ record { region = number; epoch = old.open; items = old.waiting.items } ∷ []
+log_after items number old new r h read t = ap (λ (x : Region). x.log.items) (read ∙ get_or-set_same items number new r h) ∙ t.log
+
+some_of : (n m l : ℕ) → n ≡ m → m ≡ l + 1 → 1 ≤ n
+some_of n m l a b = omega arith
+
+last_below : (n : ℕ) → 1 ≤ n → n - 1 < n
+last_below n h = omega arith
+
+pub log-some : (items : List Region) (number : ℕ) (old new r : Region) → number < length items → r ≡ get_or (set items number new) number r → Seals number old new →
+    1 ≤ vec_len r.log
+log-some items number old new r h read t =
+    some_of (vec_len r.log) (length r.log.items) (length old.log.items) r.log.ok.0
+    (ap (λ (bs : List Batch). length bs) (log_after items number old new r h read t)
+    ∙ length_push old.log.items (record { region = number; epoch = old.open; items = old.waiting.items }))
+
+pub last-batch : (items : List Region) (number place : ℕ) (old new r : Region) (b : Batch) → number < length items →
+    r ≡ get_or (set items number new) number r → Seals number old new → place ≡ vec_len r.log - 1 → b ≡ get_or r.log.items place b →
     b ≡ record { region = number; epoch = old.open; items = old.waiting.items }
-last-batch items number old new r bs b h read log t last =
+last-batch items number place old new r b h read t last is =
     same_Some b _
-    (last ∙ (ap (λ (xs : List Batch). slice_get xs (length xs - 1)) (log ∙ (ap (λ (x : Region). x.log.items) (read ∙ get_or-set_same items number new r h) ∙ t.log))
-    ∙ last-of old.log.items (record { region = number; epoch = old.open; items = old.waiting.items })))
+    (sym (slice_get_read r.log.items (vec_len r.log) place b r.log.ok.0
+    (subst (λ (p : ℕ). p < vec_len r.log) (sym last) (last_below (vec_len r.log) (log-some items number old new r h read t))) is)
+    ∙ (ap (slice_get r.log.items) (last ∙ ap (λ (n : ℕ). n - 1) r.log.ok.0)
+    ∙ (ap (λ (xs : List Batch). slice_get xs (length xs - 1)) (log_after items number old new r h read t)
+    ∙ last-of old.log.items (record { region = number; epoch = old.open; items = old.waiting.items }))))
 
 -- what follows from two clauses on an `Ok`
 pub on_ok_both : {T E P Q R : Type 0} (r : Result T E) → (P → Q → R) → OnOk r P → OnOk r Q → OnOk r R

@@ -1,5 +1,5 @@
 -- What a region sends to the others, one after another.
-use Rattle.std.proofs.Common.{◌≡◌, ℕ, zero, suc, ◌+◌, ◌-◌, ◌<◌, Bool, true, false, not, cond, ◌==◌, List, [], ◌∷◌, ◌++◌, map, filter, length, refl, sym, ap, ap₂, ◌∙◌, subst, arith, append_assoc, add-one, eq-eqb, ne_eqb, length-append}
+use Rattle.std.proofs.Common.{◌≡◌, ℕ, suc, ◌+◌, Bool, not, cond, ◌==◌, List, [], ◌∷◌, ◌++◌, map, filter, length, sym, ap, ap₂, ◌∙◌, arith, append_assoc, add-one, eq-eqb, ne_eqb, length-append}
 use Rattle.std.proofs.lemmas.List.{append-nil, map-append, length-map}
 use Rattle.std.proofs.lemmas.List.Elements.{filter-append}
 use Rattle.write_set.specs.declared.batch.Batch.{Batch}

@@ -1,15 +1,15 @@
 -- What a region stands for while others change, and the whole world where one region changes.
-use Rattle.std.proofs.Common.{◌≡◌, ℕ, zero, suc, ◌+◌, ◌-◌, ◌^◌, ◌<◌, ◌≤◌, max, Bool, true, false, cond, Option, None, Some, List, [], ◌∷◌, ◌++◌, map, length, All, set, get_or, slice_get, vec_len, refl, sym, ap, ◌∙◌, subst, arith, ⊎_elim, length-set, get_or-set_same}
+use Rattle.std.proofs.Common.{◌≡◌, ℕ, zero, suc, ◌+◌, ◌-◌, ◌^◌, ◌<◌, ◌≤◌, max, Bool, true, false, cond, None, Some, List, [], ◌∷◌, map, length, All, set, slice_get, vec_len, refl, sym, ap, ◌∙◌, subst, arith, ⊎_elim, length-set, get_or-set_same}
 use Rattle.std.proofs.lemmas.Bool.{cases_eq}
 use Rattle.std.proofs.lemmas.Option.{slice_get_within, slice_get-get_or, same_Some}
+use Rattle.geo_base.specs.declared.limits.TheConstants.{MAX_REGIONS}
 use Rattle.write_set.specs.declared.batch.Batch.{Batch}
-use Rattle.write_set.specs.declared.candidate.Candidate.{Candidate}
 use Rattle.write_set.specs.Journal.{Epochs, batch_at}
 use Rattle.write_set.specs.Plain.{IsMergeOf}
 use Rattle.geo_world.specs.declared.world.World.{World as Kept}
 use Rattle.geo_world.specs.declared.region.Region.{Region}
 use Rattle.geo_world.specs.World.{World, RegionState, region_of, published_epochs, has_arrived}
-use Rattle.geo_world.specs.Standing.{StandsFor, RegionStandsFor, HoldsArrived, IsAsSealed, packet_state}
+use Rattle.geo_world.specs.Standing.{StandsFor, IsSomeWorld, RegionStandsFor, HoldsArrived, IsAsSealed, packet_state}
 use Rattle.geo_world.specs.Sound.{IsSound}
 use Rattle.geo_world.proofs.SoundRegions.{IsKept}
 
@@ -52,7 +52,7 @@ held-stands w v number region h r = record {
   waiting = r.waiting ∙ ap (λ (s : RegionState). s.waiting) (sym h.kept.state);
   published = r.published ∙ ap (λ (s : RegionState). s.published) (sym h.kept.state);
   merges = r.merges ∙ sym h.kept.count;
-  merged = subst (λ (es : Epochs). IsMergeOf es region.merging.plain) (sym h.epochs) r.merged;
+  merged = subst (λ (es : Epochs). IsMergeOf es region.plain) (sym h.epochs) r.merged;
   holds = held_arrived w v number region h r;
   numbers = r.numbers;
   sessions = λ session few. r.sessions session few ∙ sym (h.kept.sessions session);
@@ -97,3 +97,10 @@ changed-stands w v k n number region s c here others sound last count packets ca
   packets = packets;
   carried = carried;
 }
+
+count_fits : (n m : ℕ) → n ≡ m → m ≤ MAX_REGIONS → n < 2 ^ 8
+count_fits n m a b = omega arith
+
+-- so few regions are there that 8 bits count them
+pub regions-fit : (k : Kept) → IsSomeWorld k → vec_len k.regions < 2 ^ 8
+regions-fit k some = count_fits (vec_len k.regions) (length some.0.regions) some.1.count some.1.sound.few

@@ -1,27 +1,24 @@
 -- A region of the program that takes a candidate stands for the region that took it.
-use Rattle.std.proofs.Common.{◌≡◌, ℕ, ℤ, ◌+◌, ◌<◌, ◌≤◌, max, min, Bool, true, false, Option, Some, List, [], ◌∷◌, ◌++◌, map, length, All, set, slice_get, unwrap_or, vec_len, refl, sym, ap, ◌∙◌, subst, subst₂, arith, ⊎_elim, length-set, ne_eqb}
+use Rattle.std.proofs.Common.{◌≡◌, ℕ, ℤ, ◌<◌, ◌≤◌, max, Option, Some, List, [], ◌∷◌, ◌++◌, map, length, All, set, slice_get, unwrap_or, vec_len, refl, sym, ap, ◌∙◌, subst, subst₂, arith, ⊎_elim, length-set, ne_eqb}
 use Rattle.std.proofs.lemmas.Bool.{cases_eq, and_left, and_right}
 use Rattle.geo_base.specs.declared.limits.TheConstants.{SESSIONS_PER_REGION}
 use Rattle.geo_base.specs.declared.numbers.CandId.{CandId}
 use Rattle.write_set.specs.declared.candidate.Candidate.{Candidate}
-use Rattle.write_set.specs.Journal.{Epochs, epochs_of, last_sealed}
-use Rattle.write_set.specs.Plain.{IsMergeOf}
+use Rattle.write_set.specs.Journal.{epochs_of}
+use Rattle.write_set.specs.Plain.{Merged, IsMergeOf}
 use Rattle.geo_world.specs.declared.world.World.{World as Kept}
 use Rattle.geo_world.specs.declared.region.Region.{Region}
 use Rattle.geo_world.specs.declared.inbox.Inbox.{Inbox}
-use Rattle.geo_world.specs.declared.merging.Merging.{Merging}
 use Rattle.geo_world.specs.declared.session.Session.{Session as KeptSession}
 use Rattle.geo_world.specs.declared.session.Session.TheVariants as kept
-use Rattle.geo_world.specs.World.{World, RegionState, Session, Idle, Pending, region_of, open_epoch, published_epochs, session_of}
+use Rattle.geo_world.specs.World.{World, RegionState, Idle, Pending, region_of, session_of}
 use Rattle.geo_world.specs.Step.{submitted, put_candidate, next_ticket}
 use Rattle.geo_world.specs.Sessions.{session_at}
 use Rattle.geo_world.specs.Regions.{Takes}
 use Rattle.geo_world.specs.Standing.{StandsFor, RegionStandsFor, HoldsArrived, session_state, packet_state, IsAsSealed}
-use Rattle.geo_world.specs.Sound.{IsSound}
-use Rattle.geo_world.proofs.SoundRegions.{IsKept, state-set_same, state-set_other}
+use Rattle.geo_world.proofs.SoundRegions.{state-set_same, state-set_other}
 use Rattle.geo_world.proofs.SoundSubmit.{session_of-newest, session_of-older, submitted-sound}
 use Rattle.geo_world.proofs.SoundSteps.{put-open}
-use Rattle.geo_world.proofs.Spared.{waiting-short}
 use Rattle.geo_world.proofs.Moves.{taken_world}
 use Rattle.geo_world.proofs.Standings.{slice_get-set_same, slice_get-set_other, IsHeld, ChangesOne, changed-stands}
 
@@ -57,9 +54,9 @@ taken-stands w number session c ticket old new h few t r = record {
   opens = t.opens ∙ r.opens;
   room = subst (λ (n : ℕ). n ≤ max 1 w.last) (sym t.opens) r.room;
   waiting = t.waiting ∙ (ap (λ (cs : List Candidate). cs ++ c ∷ []) r.waiting ∙ ap (λ (s : RegionState). s.waiting) (sym same));
-  published = ap (λ (m : Merging). m.plain.epoch) t.merging ∙ (r.published ∙ ap (λ (s : RegionState). s.published) (sym same));
-  merges = ap (λ (m : Merging). m.regions) t.merging ∙ (r.merges ∙ sym (length-set w.regions number state));
-  merged = subst₂ (λ (s : RegionState) (m : Merging). IsMergeOf (epochs_of w.journal s.published) m.plain) (sym same) (sym t.merging) r.merged;
+  published = ap (λ (m : Merged). m.epoch) t.plain ∙ (r.published ∙ ap (λ (s : RegionState). s.published) (sym same));
+  merges = ap (λ (m : Merged). m.regions) t.plain ∙ (r.merges ∙ sym (length-set w.regions number state));
+  merged = subst₂ (λ (s : RegionState) (m : Merged). IsMergeOf (epochs_of w.journal s.published) m) (sym same) (sym t.plain) r.merged;
   holds = subst₂ (λ (s : RegionState) (i : Inbox). HoldsArrived w.journal s i) (sym same) (sym t.inbox) r.holds;
   numbers = new.sessions.ok.0 ∙ (ap (λ (ss : List KeptSession). length ss) t.sessions
       ∙ (length-set old.sessions.items session (kept.Pending ticket) ∙ (sym old.sessions.ok.0 ∙ r.numbers)));
@@ -103,20 +100,13 @@ taken-held w number session c ticket q other = record {
     same : region_of v q ≡ region_of w q
     same = state-set_other w.regions number q state other
 
-small_csn : (n m : ℕ) → n ≡ m → m < SESSIONS_PER_REGION → min n 4294967295 ≡ m
-small_csn n m e h = omega arith
-
 -- the ticket that the program gives is the next
 taken_ticket : (w : World) (number : ℕ) (old : Region) (ticket : CandId) → RegionStandsFor w number old →
-    ticket ≡ record { epoch = old.open; region = number; csn = min (length old.waiting.items) 4294967295 } →
-    length (region_of w number).waiting < SESSIONS_PER_REGION → ticket ≡ next_ticket w number
-taken_ticket w number old ticket r named short = named ∙ (λ i. record { epoch = r.opens i; region = number; csn = csn i })
+    ticket ≡ record { epoch = old.open; region = number; csn = length old.waiting.items } → ticket ≡ next_ticket w number
+taken_ticket w number old ticket r named = named ∙ (λ i. record { epoch = r.opens i; region = number; csn = csn i })
   where
-    same : length old.waiting.items ≡ length (region_of w number).waiting
-    same = ap (λ (cs : List Candidate). length cs) r.waiting
-
-    csn : min (length old.waiting.items) 4294967295 ≡ length (region_of w number).waiting
-    csn = small_csn (length old.waiting.items) (length (region_of w number).waiting) same short
+    csn : length old.waiting.items ≡ length (region_of w number).waiting
+    csn = ap (λ (cs : List Candidate). length cs) r.waiting
 
 -- the whole world stands after a region took the insert of an idle session
 pub taken-world : (w : World) (k n : Kept) (number session : ℕ) (key value : ℤ) (ticket : CandId) (old new : Region) → StandsFor w k →
@@ -148,4 +138,4 @@ taken-world w k n number session key value ticket old new s h few idle at t chan
     state = record (region_of w number) { waiting = (region_of w number).waiting ++ c ∷ [] }
 
     named : ticket ≡ next_ticket w number
-    named = taken_ticket w number old ticket r t.named (waiting-short w number session s.sound h few idle)
+    named = taken_ticket w number old ticket r t.named

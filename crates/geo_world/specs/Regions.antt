@@ -1,5 +1,5 @@
 -- What each event does to a region of the program.
-use Rattle.std.specs.Prelude.{◌≡◌, ◌≢◌, ℕ, ◌+◌, ◌-◌, ◌^◌, ◌<◌, ◌==◌, nat_lt, min, Bool, Option, None, is_some, if◌then◌else◌, List, [], ◌∷◌, ◌++◌, length, replicate, slice_set}
+use Rattle.std.specs.Prelude.{◌≡◌, ◌≢◌, ℕ, ◌+◌, ◌-◌, ◌^◌, ◌<◌, ◌==◌, nat_lt, Bool, Option, None, is_some, if◌then◌else◌, List, [], ◌∷◌, ◌++◌, length, replicate, slice_set}
 use Rattle.std.specs.List.{slice_get, filter_map}
 use Rattle.geo_base.specs.declared.limits.TheConstants.{SESSIONS_PER_REGION}
 use Rattle.geo_base.specs.declared.numbers.CandId.{CandId}
@@ -18,19 +18,19 @@ pub record IsNew (regions : ℕ) (region : Region) : Type 0 where
   pub log : region.log.items ≡ []
   pub waiting : region.waiting.items ≡ []
   pub inbox : (of epoch : ℕ) → batch_in region.inbox of epoch ≡ None
-  pub merges : region.merging.regions ≡ regions
-  pub published : region.merging.plain.epoch ≡ 0
-  pub merged : IsMergeOf [] region.merging.plain
+  pub merges : region.plain.regions ≡ regions
+  pub published : region.plain.epoch ≡ 0
+  pub merged : IsMergeOf [] region.plain
   pub sessions : region.sessions.items ≡ replicate SESSIONS_PER_REGION Idle
 
 -- the region takes a candidate, whose session waits with this ticket
 pub record Takes (number session : ℕ) (candidate : Candidate) (ticket : CandId) (old new : Region) : Type 0 where
-  pub named : ticket ≡ record { epoch = old.open; region = number; csn = min (length old.waiting.items) 4294967295 }
+  pub named : ticket ≡ record { epoch = old.open; region = number; csn = length old.waiting.items }
   pub opens : new.open ≡ old.open
   pub log : new.log.items ≡ old.log.items
   pub waiting : new.waiting.items ≡ old.waiting.items ++ candidate ∷ []
   pub inbox : new.inbox ≡ old.inbox
-  pub merging : new.merging ≡ old.merging
+  pub plain : new.plain ≡ old.plain
   pub sessions : new.sessions.items ≡ slice_set old.sessions.items session (Pending ticket)
 
 -- the region seals its open candidates
@@ -39,7 +39,7 @@ pub record Seals (number : ℕ) (old new : Region) : Type 0 where
   pub log : new.log.items ≡ old.log.items ++ record { region = number; epoch = old.open; items = old.waiting.items } ∷ []
   pub waiting : new.waiting.items ≡ []
   pub inbox : new.inbox ≡ old.inbox
-  pub merging : new.merging ≡ old.merging
+  pub plain : new.plain ≡ old.plain
   pub sessions : new.sessions.items ≡ old.sessions.items
 
 -- a batch comes to the region
@@ -48,7 +48,7 @@ pub record Receives (batch : Batch) (old new : Region) : Type 0 where
   pub log : new.log.items ≡ old.log.items
   pub waiting : new.waiting.items ≡ old.waiting.items
   pub inbox : (of epoch : ℕ) → batch_in new.inbox of epoch ≡ with_batch batch (batch_in old.inbox) of epoch
-  pub merging : new.merging ≡ old.merging
+  pub plain : new.plain ≡ old.plain
   pub sessions : new.sessions.items ≡ old.sessions.items
 
 -- batches of the epoch may leave the inbox
@@ -57,7 +57,7 @@ pub record Gathers (gathered : ℕ) (old new : Region) : Type 0 where
   pub log : new.log.items ≡ old.log.items
   pub waiting : new.waiting.items ≡ old.waiting.items
   pub inbox : (of epoch : ℕ) → epoch ≢ gathered → batch_in new.inbox of epoch ≡ batch_in old.inbox of epoch
-  pub merging : new.merging ≡ old.merging
+  pub plain : new.plain ≡ old.plain
   pub sessions : new.sessions.items ≡ old.sessions.items
 
 -- the batch of that region and epoch may leave the inbox
@@ -66,7 +66,7 @@ pub record TakesOut (from gathered : ℕ) (old new : Region) : Type 0 where
   pub log : new.log.items ≡ old.log.items
   pub waiting : new.waiting.items ≡ old.waiting.items
   pub inbox : (of epoch : ℕ) → ((of ≡ from) × (epoch ≡ gathered) → ⊥) → batch_in new.inbox of epoch ≡ batch_in old.inbox of epoch
-  pub merging : new.merging ≡ old.merging
+  pub plain : new.plain ≡ old.plain
   pub sessions : new.sessions.items ≡ old.sessions.items
 
 -- the region of this number has that region's batch of the epoch
@@ -79,17 +79,16 @@ abbrev pub next_batch_of : Region → ℕ → ℕ → ℕ → Option Batch
 next_batch_of region number epoch of =
     if of == number then slice_get region.log.items (epoch - 1) else batch_in region.inbox of epoch
 
--- the batches of the epoch that the region of this number has, by region
-abbrev pub next_batches : Region → ℕ → ℕ → List Batch
-next_batches region number epoch = filter_map (next_batch_of region number epoch) (numbers_below region.merging.regions)
+-- the batches of the epoch that the region of this number, of so many, has, by region
+abbrev pub next_batches : Region → ℕ → ℕ → ℕ → List Batch
+next_batches region regions number epoch = filter_map (next_batch_of region number epoch) (numbers_below regions)
 
--- the batches of the epoch, which comes after these, are all here and lawful
-pub record IsReady (epochs : Epochs) (number epoch : ℕ) (region : Region) : Type 0 where
-  pub next : epoch ≡ region.merging.plain.epoch + 1
+-- the batches of the next epoch are all here and lawful
+pub record IsReady (regions number epoch : ℕ) (region : Region) : Type 0 where
+  pub next : epoch ≡ region.plain.epoch + 1
   pub room : epoch < 2 ^ 32
-  pub merged : IsMergeOf epochs region.merging.plain
-  pub all : length (next_batches region number epoch) ≡ region.merging.regions
-  pub lawful : AreBatches 0 epoch (next_batches region number epoch)
+  pub all : length (next_batches region regions number epoch) ≡ region.plain.regions
+  pub lawful : AreBatches 0 epoch (next_batches region regions number epoch)
 
 -- the region publishes the epoch, after which it has published these
 pub record Publishes (epochs : Epochs) (published : ℕ) (old new : Region) : Type 0 where
@@ -97,6 +96,6 @@ pub record Publishes (epochs : Epochs) (published : ℕ) (old new : Region) : Ty
   pub log : new.log.items ≡ old.log.items
   pub waiting : new.waiting.items ≡ old.waiting.items
   pub inbox : (of epoch : ℕ) → epoch ≢ published → batch_in new.inbox of epoch ≡ batch_in old.inbox of epoch
-  pub merges : new.merging.regions ≡ old.merging.regions
-  pub merged : IsMergeOf epochs new.merging.plain
+  pub merges : new.plain.regions ≡ old.plain.regions
+  pub merged : IsMergeOf epochs new.plain
   pub sessions : new.sessions.items ≡ old.sessions.items

@@ -2,7 +2,6 @@
 use Rattle.std.specs.Prelude.{◌≡◌, ℕ, ◌-◌, ◌^◌, ◌<◌, ◌≤◌, max, None, Some, if◌then◌else◌, List, ◌++◌, map, length, vec_len, All}
 use Rattle.std.specs.List.{slice_get}
 use Rattle.geo_base.specs.declared.limits.TheConstants.{SESSIONS_PER_REGION}
-use Rattle.write_set.specs.declared.batch.Batch.{Batch}
 use Rattle.write_set.specs.Journal.{Journal, log_of, batch_at}
 use Rattle.write_set.specs.Plain.{IsMergeOf}
 use Rattle.geo_world.specs.declared.world.World.{World as Kept}
@@ -40,9 +39,9 @@ pub record RegionStandsFor (w : World) (number : ℕ) (region : Region) : Type 0
   pub opens : region.open ≡ open_epoch w number
   pub room : region.open ≤ max 1 w.last
   pub waiting : region.waiting.items ≡ (region_of w number).waiting
-  pub published : region.merging.plain.epoch ≡ (region_of w number).published
-  pub merges : region.merging.regions ≡ length w.regions
-  pub merged : IsMergeOf (published_epochs w number) region.merging.plain
+  pub published : region.plain.epoch ≡ (region_of w number).published
+  pub merges : region.plain.regions ≡ length w.regions
+  pub merged : IsMergeOf (published_epochs w number) region.plain
   pub holds : HoldsArrived w.journal (region_of w number) region.inbox
   pub numbers : vec_len region.sessions ≡ SESSIONS_PER_REGION
   pub sessions : (session : ℕ) → session < SESSIONS_PER_REGION → session_state (session_at region.sessions.items session) ≡ session_of w number session
@@ -60,6 +59,10 @@ pub record StandsFor (w : World) (k : Kept) : Type 0 where
   pub regions : (number : ℕ) (region : Region) → slice_get k.regions.items number ≡ Some region → RegionStandsFor w number region
   pub packets : map packet_state k.packets.items ≡ w.packets
   pub carried : All (IsAsSealed w.journal) k.packets.items
+
+-- the program's world is one that open and steps have made
+abbrev pub IsSomeWorld : Kept → Type 0
+IsSomeWorld k = (w : World) × StandsFor w k
 
 -- the text has grown by the lines of the step, and the program's world stands for its world
 pub record Makes (step : Stepped) (before after : List ℕ) (k : Kept) : Type 0 where

@@ -1,15 +1,14 @@
 -- What each event prints and changes.
-use Rattle.std.specs.Prelude.{ℕ, ℤ, zero, suc, ◌+◌, ◌-◌, Bool, true, false, not, ◌==◌, ◌||◌, nat_le, nat_lt, Option, None, Some, is_some, if◌then◌else◌, List, [], ◌∷◌, ◌++◌, length, map, filter, count_by, slice_set}
-use Rattle.std.specs.List.{slice_get, flat_map}
+use Rattle.std.specs.Prelude.{ℕ, ℤ, zero, suc, ◌+◌, ◌-◌, Bool, not, ◌==◌, ◌||◌, nat_le, nat_lt, Option, None, Some, is_some, if◌then◌else◌, List, [], ◌∷◌, ◌++◌, length, map, filter, count_by, slice_set}
+use Rattle.std.specs.List.{slice_get}
 use Rattle.geo_base.specs.declared.limits.TheConstants.{MAX_AGE, MAX_AHEAD, MAX_CANDIDATES, MAX_BATCH_BYTES}
-use Rattle.geo_base.specs.declared.cell.Cell.{Cell}
 use Rattle.geo_base.specs.declared.cell.Cell.TheVariants as cell
 use Rattle.geo_base.specs.declared.numbers.CandId.{CandId}
 use Rattle.geo_base.specs.declared.row_id.RowId.{RowId}
 use Rattle.write_set.specs.declared.batch.Batch.{Batch}
 use Rattle.write_set.specs.declared.candidate.Candidate.{Candidate}
 use Rattle.write_set.specs.declared.change.Change.TheVariants.{Put}
-use Rattle.write_set.specs.Journal.{Journal, log_of, epochs_of}
+use Rattle.write_set.specs.Journal.{log_of, epochs_of}
 use Rattle.write_set.specs.Merge.{verdicts, is_committed}
 use Rattle.write_set.specs.Snapshot.{snap_at, snap_rows}
 use Rattle.write_set.specs.Sizes.{batch_size}

@@ -9,11 +9,8 @@
 //! [`published_epochs_are_sealed`], [`journals_grow`], [`few_answers`] and their like.
 #![tactic(auto)]
 
-mod counts;
 mod event;
 mod inbox;
-mod lawful;
-mod merging;
 mod packet;
 mod printing;
 mod reading;

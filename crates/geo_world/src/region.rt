@@ -1,23 +1,22 @@
 //! One region of the world.
-ghost use Rattle.std.specs.Prelude.{◌≡◌, ◌+◌, ◌<◌, ◌∷◌, ℕ, IfOk, OnOk, is_some, min, vec_len, nat_le, nat_lt, count_by, length};
+ghost use Rattle.std.specs.Prelude.{◌≡◌, ◌+◌, ◌^◌, ◌<◌, ◌≤◌, ◌∷◌, ℕ, IfOk, OnOk, is_some, vec_len, nat_le, nat_lt, count_by, length};
 ghost use Rattle.std.specs.Prelude.{if◌then◌else◌, ◌==◌, ◌||◌};
 ghost use Rattle.geo_world.specs.Arrivals.{batch_in};
-ghost use Rattle.geo_base.specs.declared.limits.TheConstants.{MAX_AHEAD};
+ghost use Rattle.geo_base.specs.declared.limits.TheConstants.{MAX_AHEAD, MAX_REGIONS};
 ghost use Rattle.write_set.specs.Journal.{Epochs, candidates_of};
 ghost use Rattle.write_set.specs.Merge.{verdicts};
+ghost use Rattle.write_set.specs.Plain.{IsMergeOf};
 ghost use Rattle.write_set.specs.Snapshot.{image_in};
 ghost use Rattle.geo_world.specs.Regions.{IsNew, Takes, Seals, Receives, TakesOut, Gathers, IsReady, Publishes, has_next, next_batch_of, next_batches};
 ghost use Rattle.geo_world.specs.Step.{numbers_below};
 
-use crate::counts::count_of;
 use crate::inbox::{Inbox, empty_inbox, has_batch, put_batch, take_batch};
-use crate::merging::{Merging, merge, new_merging};
 use crate::session::Session;
 use crate::sessions::{let_wait, new_sessions};
 use geo_base::limits::MAX_AHEAD;
 use geo_base::{CandId, Duplicate, Epoch, NoMemory, Outcome, RegionNo, RowId};
 use std::alloc::Global;
-use write_set::{Batch, Candidate, CandidateList};
+use write_set::{Batch, Candidate, CandidateList, Plain};
 
 /// One region: the epoch that it seals next, the batches that it has sealed, its open candidates, the
 /// batches that have come to it, what it has published, and its sessions.
@@ -27,13 +26,15 @@ pub struct Region {
     pub log: Vec<Batch>,
     pub waiting: Vec<Candidate>,
     pub inbox: Inbox,
-    pub merging: Merging,
+    pub plain: Plain,
     pub sessions: Vec<Session>,
 }
 
 impl Region {
     /// A region at its start, of so many.
     pub fn new(alloc: Global, regions: u8) -> Result<Region, NoMemory>
+        requires some { 1 ≤ regions }
+        requires few { regions ≤ MAX_REGIONS }
         ensures { IfOk result (λ region. IsNew regions region) }
     {
         let sessions = new_sessions(alloc)?;
@@ -42,16 +43,16 @@ impl Region {
             log: Vec::new(alloc),
             waiting: Vec::new(alloc),
             inbox: empty_inbox(alloc),
-            merging: new_merging(alloc, regions),
+            plain: Plain::empty(alloc, regions),
             sessions,
         })
     }
 
     /// Whether the row is there in what the region has published.
     pub fn has_row(&self, row: &RowId) -> bool
-        ensures { result ≡ is_some (image_in self.now.merging.plain.rows row.now) }
+        ensures { result ≡ is_some (image_in self.now.plain.rows row.now) }
     {
-        self.merging.plain.get(row).is_some()
+        self.plain.get(row).is_some()
     }
 
     /// Takes a candidate of a session, which waits from now on, and answers its ticket.
@@ -61,9 +62,11 @@ impl Region {
         session: u8,
         candidate: Candidate,
     ) -> Result<CandId, NoMemory>
+        requires few { vec_len self.old.waiting < 2 ^ 32 }
+        requires session { session < vec_len self.old.sessions }
         ensures { IfOk result (λ ticket. Takes number session candidate ticket self.old self.new) }
     {
-        let csn = count_of(self.waiting.len());
+        let csn = self.waiting.len() as u32;
         let ticket = CandId {
             epoch: self.open,
             region: number,
@@ -76,9 +79,9 @@ impl Region {
 
     /// Whether as many batches as may be are sealed and not published.
     pub fn is_ahead(&self) -> bool
-        ensures { result ≡ nat_le (MAX_AHEAD + self.now.merging.plain.epoch + 1) self.now.open }
+        ensures { result ≡ nat_le (MAX_AHEAD + self.now.plain.epoch + 1) self.now.open }
     {
-        u64::from(self.open) > u64::from(self.merging.plain.epoch()) + u64::from(MAX_AHEAD)
+        u64::from(self.open) > u64::from(self.plain.epoch()) + u64::from(MAX_AHEAD)
     }
 
     /// Seals the open candidates as a batch, at the end of the log.
@@ -99,10 +102,9 @@ impl Region {
 
     /// Whether a batch of another region is here, or its epoch is published.
     pub fn knows(&self, batch: &Batch) -> bool
-        ensures { result ≡ nat_le batch.now.epoch self.now.merging.plain.epoch || is_some (batch_in self.now.inbox batch.now.region batch.now.epoch) }
+        ensures { result ≡ nat_le batch.now.epoch self.now.plain.epoch || is_some (batch_in self.now.inbox batch.now.region batch.now.epoch) }
     {
-        batch.epoch <= self.merging.plain.epoch()
-            || has_batch(&self.inbox, batch.region, batch.epoch)
+        batch.epoch <= self.plain.epoch() || has_batch(&self.inbox, batch.region, batch.epoch)
     }
 
     /// Puts a batch of another region into the inbox.
@@ -123,12 +125,12 @@ impl Region {
         }
     }
 
-    /// How many regions' batches of the epoch are here.
-    pub fn count_next(&self, number: RegionNo, epoch: Epoch) -> u8
-        ensures { result ≡ count_by (has_next self.now number epoch) (numbers_below self.now.merging.regions) }
+    /// Of how many regions, of so many, the batch of the epoch is here.
+    pub fn count_next(&self, regions: u8, number: RegionNo, epoch: Epoch) -> u8
+        ensures { result ≡ count_by (has_next self.now number epoch) (numbers_below regions) }
     {
         let mut have = 0;
-        for of in 0..self.merging.regions {
+        for of in 0..regions {
             if self.has_next(number, of, epoch) {
                 have += 1;
             }
@@ -162,15 +164,16 @@ impl Region {
     pub fn gather(
         &mut self,
         alloc: Global,
+        regions: u8,
         number: RegionNo,
         epoch: Epoch,
     ) -> Result<Vec<Batch>, NoMemory>
         requires { 0 < epoch }
-        ensures batches { IfOk result (λ batches. batches.items ≡ next_batches self.old number epoch) }
+        ensures batches { IfOk result (λ batches. batches.items ≡ next_batches self.old regions number epoch) }
         ensures kept { Gathers epoch self.old self.new }
     {
         let mut batches = Vec::new(alloc);
-        for of in 0..self.merging.regions {
+        for of in 0..regions {
             if let Some(batch) = self.take_next(alloc, number, epoch, of)? {
                 batches.push(batch)?;
             }
@@ -180,25 +183,27 @@ impl Region {
 
     /// The epoch after the last that is published.
     pub fn next_epoch(&self) -> Epoch
-        ensures { result ≡ min (self.now.merging.plain.epoch + 1) 4294967295 }
+        requires { self.now.plain.epoch + 1 < 2 ^ 32 }
+        ensures { result ≡ self.now.plain.epoch + 1 }
     {
-        self.merging.plain.epoch().saturating_add(1)
+        self.plain.epoch() + 1
     }
 
     /// Merges the batches of the next epoch, which are all here, and answers the verdicts.
     pub fn publish(
         &mut self,
         alloc: Global,
+        regions: u8,
         number: RegionNo,
         epoch: Epoch,
     ) -> Result<Vec<Outcome>, NoMemory>
-        requires { 0 < epoch }
-        ensures verdicts { (epochs : Epochs) → IsReady epochs number epoch self.old →
-            IfOk result (λ outcomes. outcomes.items ≡ verdicts (candidates_of (next_batches self.old number epoch) ∷ epochs)) }
-        ensures published { (epochs : Epochs) → IsReady epochs number epoch self.old →
-            OnOk result (Publishes (candidates_of (next_batches self.old number epoch) ∷ epochs) epoch self.old self.new) }
+        requires { IsReady regions number epoch self.old }
+        ensures verdicts { (epochs : Epochs) → IsMergeOf epochs self.old.plain →
+            IfOk result (λ outcomes. outcomes.items ≡ verdicts (candidates_of (next_batches self.old regions number epoch) ∷ epochs)) }
+        ensures published { (epochs : Epochs) → IsMergeOf epochs self.old.plain →
+            OnOk result (Publishes (candidates_of (next_batches self.old regions number epoch) ∷ epochs) epoch self.old self.new) }
     {
-        let batches = self.gather(alloc, number, epoch)?;
-        merge(alloc, &mut self.merging, batches.as_slice())
+        let batches = self.gather(alloc, regions, number, epoch)?;
+        self.plain.step(batches.as_slice())
     }
 }

@@ -1,6 +1,5 @@
 //! The sessions of a region.
 ghost use Rattle.std.specs.Prelude.{◌≡◌, ℕ, ◌<◌, IfOk, replicate, slice_set, vec_len};
-ghost use Rattle.std.specs.List.{slice_get};
 ghost use Rattle.geo_world.specs.Sessions.{session_at};
 ghost use Rattle.geo_base.specs.declared.limits.TheConstants.{SESSIONS_PER_REGION};
 ghost use Rattle.geo_world.specs.declared.session.Session.TheVariants as kept;
@@ -20,19 +19,16 @@ pub fn new_sessions(alloc: Global) -> Result<Vec<Session>, NoMemory>
 
 /// Where the session stands.
 pub fn session_state(sessions: &Vec<Session>, session: u8) -> Session
+    requires { session < vec_len sessions.now }
     ensures { result ≡ session_at sessions.now.items session }
 {
-    sessions
-        .get(session as usize)
-        .copied()
-        .unwrap_or(Session::Idle)
+    sessions[session as usize]
 }
 
 /// The session waits from now on.
 pub fn let_wait(sessions: &mut Vec<Session>, session: u8, ticket: CandId)
+    requires { session < vec_len sessions.old }
     ensures { sessions.new.items ≡ slice_set sessions.old.items session (kept.Pending ticket) }
 {
-    if let Some(slot) = sessions.get_mut(session as usize) {
-        *slot = Session::Pending(ticket);
-    }
+    sessions[session as usize] = Session::Pending(ticket);
 }

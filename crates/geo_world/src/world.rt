@@ -1,4 +1,5 @@
 ghost use Rattle.std.specs.Prelude.{◌≡◌, IfOk, OnOk, ◌≤◌, string_bytes};
+ghost use Rattle.geo_base.specs.declared.limits.TheConstants.{MAX_REGIONS};
 ghost use Rattle.geo_world.specs.Script.{IsWithin};
 ghost use Rattle.geo_world.specs.World.{World as WorldState, first_world};
 ghost use Rattle.geo_world.specs.Step.{step};
@@ -25,12 +26,12 @@ pub struct World {
 }
 
 impl World {
-    ghost use Rattle.geo_world.specs.Standing.{StandsFor, Makes, region_count};
+    ghost use Rattle.geo_world.specs.Standing.{StandsFor, IsSomeWorld, Makes, region_count};
 
     /// The world before the first event. `regions` is 1 to 8; no region opens an epoch past `last`.
     pub fn open(alloc: Global, regions: u8, last: Epoch) -> Result<World, NoMemory>
         requires some { 1 ≤ regions }
-        requires few { regions ≤ 8 }
+        requires few { regions ≤ MAX_REGIONS }
         ensures count { IfOk result (λ world. region_count world ≡ regions) }
         ensures first { IfOk result (λ world. StandsFor (first_world regions last) world) }
     {
@@ -50,7 +51,8 @@ impl World {
     /// the candidates, rows and packets that it names or prints, times a logarithm of what the region
     /// keeps. After an error the world is in no stated state.
     pub fn step(&mut self, event: &Event) -> Result<Vec<u8>, NoMemory>
-        requires { IsWithin (region_count self.old) event.now }
+        requires within { IsWithin (region_count self.old) event.now }
+        requires stands { IsSomeWorld self.old }
         ensures count { region_count self.new ≡ region_count self.old }
         ensures lines { (w : WorldState) → StandsFor w self.old → IfOk result (λ lines. lines.items ≡ (step w event.now).lines) }
         ensures world { (w : WorldState) → StandsFor w self.old → IfOk result (λ _. StandsFor (step w event.now).world self.new) }
@@ -62,7 +64,8 @@ impl World {
 
     /// Makes the step of an event and puts its lines at the end of the text.
     fn play(&mut self, out: &mut String, event: Event) -> Result<(), NoMemory>
-        requires { IsWithin (region_count self.old) event }
+        requires within { IsWithin (region_count self.old) event }
+        requires stands { IsSomeWorld self.old }
         ensures count { region_count self.new ≡ region_count self.old }
         ensures step { (w : WorldState) → StandsFor w self.old →
             OnOk result (Makes (step w event) (string_bytes out.old) (string_bytes out.new) self.new) }

@@ -4,7 +4,7 @@ ghost use Rattle.std.specs.Io.KnownBytes.{Appends};
 ghost use Rattle.geo_io.specs.Causes.{Rose, HasCauseOf};
 ghost use Rattle.geo_io.specs.Told.{AppendsFrontOf};
 ghost use Rattle.geo_world.specs.Script.{IsWithin};
-ghost use Rattle.geo_world.specs.Standing.{StandsFor, region_count};
+ghost use Rattle.geo_world.specs.Standing.{StandsFor, IsSomeWorld, region_count};
 ghost use Rattle.geo_world.specs.Step.{step};
 ghost use Rattle.geo_world.specs.Play.{text_of};
 ghost use Rattle.geo_world.specs.World.{World as WorldState};
@@ -19,7 +19,8 @@ use std::alloc::Global;
 
 /// Makes the step of an event and writes its lines.
 fn play_event<K: Sink>(world: &mut World, event: &Event, out: &mut K) -> Result<(), IoFault>
-    requires { IsWithin (region_count world.old) event.now }
+    requires within { IsWithin (region_count world.old) event.now }
+    requires stands { IsSomeWorld world.old }
     ensures count { region_count world.new ≡ region_count world.old }
     ensures world { (w : WorldState) → StandsFor w world.old → OnOk result (StandsFor (step w event.now).world world.new) }
     ensures ok { (w : WorldState) → StandsFor w world.old →
@@ -36,7 +37,8 @@ fn play_event<K: Sink>(world: &mut World, event: &Event, out: &mut K) -> Result<
 
 /// Plays all events in a world.
 fn play_events<K: Sink>(world: &mut World, events: &[Event], out: &mut K) -> Result<(), IoFault>
-    requires { All (IsWithin (region_count world.old)) events.now }
+    requires within { All (IsWithin (region_count world.old)) events.now }
+    requires stands { IsSomeWorld world.old }
     ensures ok { (w : WorldState) → StandsFor w world.old →
         OnOk result (Appends (K.written out.old) (K.written out.new) (text_of w events.now)) }
     ensures err { (w : WorldState) → StandsFor w world.old →

@@ -10,7 +10,7 @@ use crate::printing::{print_packet_absent, print_packet_known, print_packet_new}
 use geo_base::{Duplicate, NoMemory};
 
 impl World {
-    ghost use Rattle.geo_world.specs.Standing.{StandsFor, Makes, region_count};
+    ghost use Rattle.geo_world.specs.Standing.{StandsFor, IsSomeWorld, Makes, region_count};
 
     /// Delivers the packets of these numbers, one after another.
     pub(super) fn deliver(
@@ -19,7 +19,8 @@ impl World {
         first: u32,
         last: u32,
     ) -> Result<(), NoMemory>
-        requires { first ≤ last }
+        requires order { first ≤ last }
+        requires stands { IsSomeWorld self.old }
         ensures count { region_count self.new ≡ region_count self.old }
         ensures step { (w : WorldState) → StandsFor w self.old →
             OnOk result (Makes (deliver (last + 1 - first) first w) (string_bytes out.old) (string_bytes out.new) self.new) }
@@ -32,6 +33,7 @@ impl World {
 
     /// Delivers one packet, if it was ever sent.
     fn deliver_one(&mut self, out: &mut String, packet: u32) -> Result<(), NoMemory>
+        requires { IsSomeWorld self.old }
         ensures count { region_count self.new ≡ region_count self.old }
         ensures step { (w : WorldState) → StandsFor w self.old →
             OnOk result (Makes (deliver_one w packet (slice_get w.packets packet)) (string_bytes out.old) (string_bytes out.new) self.new) }
@@ -40,9 +42,6 @@ impl World {
             return print_packet_absent(out, packet as u64);
         };
         let to = found.to as usize;
-        if to >= self.regions.len() {
-            return Ok(());
-        }
         if self.regions[to].knows(&found.batch) {
             return print_packet_known(out, packet as u64);
         }

@@ -5,7 +5,6 @@ ghost use Rattle.geo_world.specs.World.{World as WorldState};
 ghost use Rattle.geo_world.specs.Step.{seal, publish};
 
 use super::World;
-use crate::counts::count_of;
 use crate::printing::{
     print_batch_sealed, print_epoch_published, print_region_waits, print_seal_ahead,
     print_seal_last,
@@ -14,11 +13,12 @@ use crate::sending::send_all;
 use geo_base::{NoMemory, Outcome, RegionNo};
 
 impl World {
-    ghost use Rattle.geo_world.specs.Standing.{StandsFor, Makes, region_count};
+    ghost use Rattle.geo_world.specs.Standing.{StandsFor, IsSomeWorld, Makes, region_count};
 
     /// Seals the open epoch of a region and sends its batch to every other region.
     pub(super) fn seal(&mut self, out: &mut String, number: RegionNo) -> Result<(), NoMemory>
-        requires { number < region_count self.old }
+        requires region { number < region_count self.old }
+        requires stands { IsSomeWorld self.old }
         ensures count { region_count self.new ≡ region_count self.old }
         ensures step { (w : WorldState) → StandsFor w self.old →
             OnOk result (Makes (seal w number) (string_bytes out.old) (string_bytes out.new) self.new) }
@@ -31,33 +31,34 @@ impl World {
         if region.is_ahead() {
             return print_seal_ahead(out, number);
         }
-        let count = count_of(region.waiting.len());
-        let regions = region.merging.regions;
+        let count = region.waiting.len() as u32;
+        let regions = self.regions.len() as u8;
         self.regions[number as usize].seal(self.alloc, number)?;
         print_batch_sealed(out, number, epoch, count)?;
-        match self.regions[number as usize].log.as_slice().last() {
-            Some(batch) => send_all(self.alloc, &mut self.packets, out, regions, batch),
-            None => Ok(()),
-        }
+        let log = &self.regions[number as usize].log;
+        let last = log.len() - 1;
+        let batch = &log[last];
+        send_all(self.alloc, &mut self.packets, out, regions, batch)
     }
 
     /// Publishes the next epoch of a region, if it has the batch of every region.
     pub(super) fn publish(&mut self, out: &mut String, number: RegionNo) -> Result<(), NoMemory>
-        requires { number < region_count self.old }
+        requires region { number < region_count self.old }
+        requires stands { IsSomeWorld self.old }
         ensures count { region_count self.new ≡ region_count self.old }
         ensures step { (w : WorldState) → StandsFor w self.old →
             OnOk result (Makes (publish w number) (string_bytes out.old) (string_bytes out.new) self.new) }
     {
+        let regions = self.regions.len() as u8;
         let region = &self.regions[number as usize];
-        let regions = region.merging.regions;
         let epoch = region.next_epoch();
-        let have = region.count_next(number, epoch);
+        let have = region.count_next(regions, number, epoch);
         if have < regions {
             return print_region_waits(out, number, epoch, have, regions);
         }
-        let outcomes = self.regions[number as usize].publish(self.alloc, number, epoch)?;
-        let commits = count_of(count_committed(outcomes.as_slice()));
-        let aborts = count_of(count_aborted(outcomes.as_slice()));
+        let outcomes = self.regions[number as usize].publish(self.alloc, regions, number, epoch)?;
+        let commits = count_committed(outcomes.as_slice()) as u32;
+        let aborts = count_aborted(outcomes.as_slice()) as u32;
         print_epoch_published(out, number, epoch, commits, aborts)
     }
 }

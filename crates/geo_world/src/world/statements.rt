@@ -19,7 +19,7 @@ use crate::sessions::session_state;
 use geo_base::{NoMemory, RegionNo};
 
 impl World {
-    ghost use Rattle.geo_world.specs.Standing.{StandsFor, Makes, region_count};
+    ghost use Rattle.geo_world.specs.Standing.{StandsFor, IsSomeWorld, Makes, region_count};
 
     /// Shows what a region has published.
     pub(super) fn show(&self, out: &mut String, number: RegionNo) -> Result<(), NoMemory>
@@ -27,7 +27,7 @@ impl World {
         ensures { (w : WorldState) → StandsFor w self.now →
             OnOk result (Makes (show w number) (string_bytes out.old) (string_bytes out.new) self.now) }
     {
-        let plain = &self.regions[number as usize].merging.plain;
+        let plain = &self.regions[number as usize].plain;
         print_shown(out, number, plain.epoch(), plain)
     }
 
@@ -41,6 +41,7 @@ impl World {
     ) -> Result<(), NoMemory>
         requires region { number < region_count self.old }
         requires session { session < SESSIONS_PER_REGION }
+        requires stands { IsSomeWorld self.old }
         ensures count { region_count self.new ≡ region_count self.old }
         ensures step { (w : WorldState) → StandsFor w self.old →
             OnOk result (Makes (sql w number session statement (session_of w number session)) (string_bytes out.old) (string_bytes out.new) self.new) }
@@ -62,6 +63,7 @@ impl World {
     ) -> Result<(), NoMemory>
         requires region { number < region_count self.old }
         requires session { session < SESSIONS_PER_REGION }
+        requires stands { IsSomeWorld self.old }
         ensures count { region_count self.new ≡ region_count self.old }
         ensures step { (w : WorldState) → StandsFor w self.old → session_of w number session ≡ state.Idle →
             OnOk result (Makes (run_statement w number session statement) (string_bytes out.old) (string_bytes out.new) self.new) }
@@ -78,12 +80,7 @@ impl World {
         ensures { (w : WorldState) → StandsFor w self.now →
             OnOk result (Makes (run_statement w number session statement.Select) (string_bytes out.old) (string_bytes out.new) self.now) }
     {
-        print_answer(
-            out,
-            number,
-            session,
-            &self.regions[number as usize].merging.plain,
-        )
+        print_answer(out, number, session, &self.regions[number as usize].plain)
     }
 
     /// Takes the insert of an idle session as a candidate, unless its row is there.
@@ -97,6 +94,7 @@ impl World {
     ) -> Result<(), NoMemory>
         requires region { number < region_count self.old }
         requires session { session < SESSIONS_PER_REGION }
+        requires stands { IsSomeWorld self.old }
         ensures count { region_count self.new ≡ region_count self.old }
         ensures step { (w : WorldState) → StandsFor w self.old → session_of w number session ≡ state.Idle →
             OnOk result (Makes (run_statement w number session (statement.Insert key value)) (string_bytes out.old) (string_bytes out.new) self.new) }
@@ -107,7 +105,7 @@ impl World {
         if region.has_row(&row) {
             return print_duplicate(out, number, session, &row);
         }
-        let start = region.merging.plain.epoch();
+        let start = region.plain.epoch();
         let candidate = candidate_of(alloc, start, key, value)?;
         let ticket = self.regions[number as usize].take(number, session, candidate)?;
         print_changed_one(out, number, session, ticket)

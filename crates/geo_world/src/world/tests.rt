@@ -1,7 +1,7 @@
 //! What small worlds print.
-ghost use Rattle.std.specs.Prelude.{◌≡◌};
+ghost use Rattle.std.specs.Prelude.{◌≡◌, OnOk};
 ghost use Rattle.geo_world.specs.Script.{IsWithin};
-ghost use Rattle.geo_world.specs.Standing.{region_count};
+ghost use Rattle.geo_world.specs.Standing.{IsSomeWorld, region_count};
 
 use super::World;
 use crate::event::{Event, Statement};
@@ -27,7 +27,9 @@ const INSERT_AGAIN: Event = Event::Sql {
 fn play(world: &mut World, text: &mut Vec<u8>, event: Event) -> Result<(), Fail>
     requires count { region_count world.old ≡ 2 }
     requires within { IsWithin 2 event }
-    ensures { region_count world.new ≡ 2 }
+    requires stands { IsSomeWorld world.old }
+    ensures count { region_count world.new ≡ 2 }
+    ensures stands { OnOk result (IsSomeWorld world.new) }
 {
     let lines = world.step(&event)?;
     text.extend_from_slice(lines.as_slice())?;

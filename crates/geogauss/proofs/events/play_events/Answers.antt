@@ -1,16 +1,23 @@
-use Rattle.std.proofs.Common.{◌<◌, length, arith, ◌∙◌}
+use Rattle.std.proofs.Common.{◌<◌, length, take, arith, ◌∙◌}
 use Rattle.std.proofs.lemmas.Result.{err_from_is_err_and}
 use Rattle.std.proofs.KnownBytes.{Appends-trans}
 use Rattle.std.specs.Prelude.{pos}
 use Rattle.geo_world.specs.declared.event.Event.{Event}
 use Rattle.geo_world.specs.declared.event.Event.TheVariants.{Sql}
 use Rattle.geo_world.specs.declared.event.Statement.TheVariants.{Insert}
+use Rattle.geo_world.specs.Play.{world_after}
 use Rattle.geogauss.proofs.PlayLemmas.{world_after-more, text_of-more, StoppedAfter-event}
 use Rattle.geogauss.proofs.events.play_events.Goals as goal
 
 -- what stands past the end of the events
 abbrev none : Event
 none = Sql 0 0 (Insert (pos 0) (pos 0))
+
+pub play_event-requires-clause-stands : goal.play_event-requires-clause-stands
+play_event-requires-clause-stands g c = (
+  world_after c.requires.stands.0 (take c.loop-event.event-index c.args.events.now),
+  c.loop-event.invariant.world c.requires.stands.0 c.requires.stands.1,
+)
 
 pub returns-in_err-play_event-clause-err : goal.returns-in_err-play_event-clause-err
 returns-in_err-play_event-clause-err g c w stands =

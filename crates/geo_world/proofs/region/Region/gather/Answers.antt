@@ -1,5 +1,5 @@
 -- The batches of one region more are gathered.
-use Rattle.std.proofs.Common.{◌≡◌, ◌++◌, sym, ap, ◌∙◌, List, Option, Some, None}
+use Rattle.std.proofs.Common.{sym, ap, ◌∙◌, Some, None}
 use Rattle.std.proofs.lemmas.List.{append-nil}
 use Rattle.geo_world.specs.Regions.{next_batch_of}
 use Rattle.geo_world.proofs.Gathering.{gathered_more, next_same, gathers_more, left_more}

@@ -1,9 +1,15 @@
 -- One packet more is delivered at each turn.
-use Rattle.std.proofs.Common.{◌≡◌, ◌+◌, ◌-◌, ℕ, ap, subst, sym, ◌∙◌, arith, string_bytes}
+use Rattle.std.proofs.Common.{◌≡◌, ◌+◌, ◌-◌, ℕ, subst, ◌∙◌, arith, string_bytes}
 use Rattle.geo_world.specs.Step.{deliver}
 use Rattle.geo_world.specs.Standing.{Makes}
 use Rattle.geo_world.proofs.Delivering.{deliver-makes}
 use Rattle.geo_world.proofs.world.World.deliver.Goals as goal
+
+pub deliver_one-requires : goal.deliver_one-requires
+deliver_one-requires c = (
+  (deliver (c.loop-packet.packet - c.args.first) c.args.first c.requires.stands.0).world,
+  (c.loop-packet.invariant.made c.requires.stands.0 c.requires.stands.1).world,
+)
 
 pub loop-packet-preserved : goal.loop-packet-preserved
 loop-packet-preserved c = record {

@@ -1,13 +1,22 @@
 -- An insert is refused where its row is there, and else taken.
-use Rattle.std.proofs.Common.{◌≡◌, ◌<◌, ℤ, Bool, true, false, refl, sym, ap, ap₂, subst, ◌∙◌, is_some, to_z-of_z, w64, length, arith, vec_len}
+use Rattle.std.proofs.Common.{◌≡◌, ◌<◌, ℤ, false, refl, sym, ap, ap₂, subst, ◌∙◌, is_some, to_z-of_z, w64, length}
 use Rattle.std.proofs.lemmas.Result.{on_ok_weaker}
 use Rattle.write_set.specs.Snapshot.{image_in}
 use Rattle.write_set.specs.declared.candidate.Candidate.{Candidate}
 use Rattle.geo_world.specs.declared.region.Region.{Region}
 use Rattle.geo_world.specs.Step.{kv_row, put_candidate}
 use Rattle.geo_world.specs.Regions.{Takes}
-use Rattle.geo_world.proofs.Asking.{region-read, region-stands, read-same, duplicate-makes, insert-makes}
+use Rattle.geo_world.proofs.Asking.{session-within, region-read, region-stands, read-same, duplicate-makes, insert-makes}
+use Rattle.geo_world.proofs.SealingLemmas.{waiting-fits}
 use Rattle.geo_world.proofs.world.World.insert.Goals as goal
+
+pub take-requires : goal.take-requires
+take-requires c =
+    let here = region-stands c.requires.stands.0 c.args.self.now c.args.number c.index_mut.result.now c.requires.stands.1 c.requires.region c.index_mut.ensures.value in
+    record {
+      few = waiting-fits c.requires.stands.0 c.args.self.now c.args.number c.index_mut.result.now c.requires.stands.1 c.requires.region here;
+      session = session-within c.args.session c.index_mut.result.now c.requires.stands.0 c.args.number here c.requires.session;
+    }
 
 pub returns-then-has_row-clause-step : goal.returns-then-has_row-clause-step
 returns-then-has_row-clause-step c = λ w s idle. on_ok_weaker c.print_duplicate.result
@@ -31,7 +40,7 @@ returns-clause-step c = λ w s idle.
     c.index_mut.result.now c.take.new.self _ _ s c.requires.region c.requires.session idle
     (region-read c.args.self.now c.args.number c.index_mut.result.now c.requires.region c.index_mut.ensures.value)
     (c.in_ok-row.ensures ∙ ap kv_row (to_z-of_z {w = w64} {z = c.args.key} c.ranges.key))
-    (subst (λ (r : Region). is_some (image_in r.merging.plain.rows c.in_ok-row.row) ≡ false) old (sym c.if-has_row.ensures))
-    (c.epoch-start.ensures ∙ ap (λ (r : Region). r.merging.plain.epoch) old)
+    (subst (λ (r : Region). is_some (image_in r.plain.rows c.in_ok-row.row) ≡ false) old (sym c.if-has_row.ensures))
+    (c.epoch-start.ensures ∙ ap (λ (r : Region). r.plain.epoch) old)
     takes (record { last = refl; regions = refl; within = within }) refl)
     c.print_changed_one.ensures

@@ -1,11 +1,14 @@
 -- A session that waits is told so, and an idle one's statement is run.
-use Rattle.std.proofs.Common.{ap, sym, subst, ◌∙◌, ◌≡◌}
+use Rattle.std.proofs.Common.{sym, ◌∙◌}
 use Rattle.std.proofs.lemmas.Result.{on_ok_weaker}
-use Rattle.geo_world.specs.World.{Session, Idle}
-use Rattle.geo_world.specs.Step.{sql}
-use Rattle.geo_world.specs.Standing.{Makes}
-use Rattle.geo_world.proofs.Asking.{region-stands, session-is, waits-makes, runs-makes}
+use Rattle.geo_world.proofs.Asking.{session-within, region-stands, session-is, waits-makes, runs-makes}
 use Rattle.geo_world.proofs.world.World.run.Goals as goal
+
+pub session_state-requires : goal.session_state-requires
+session_state-requires c =
+    session-within c.args.session c.index-region.result.now c.requires.stands.0 c.args.number
+    (region-stands c.requires.stands.0 c.args.self.now c.args.number c.index-region.result.now c.requires.stands.1 c.requires.region c.index-region.ensures)
+    c.requires.session
 
 pub returns-in-Pending-clause-step : goal.returns-in-Pending-clause-step
 returns-in-Pending-clause-step c = λ w s. on_ok_weaker c.print_session_waits.result
