@@ -1,0 +1,9 @@
+pub mod Texts
+pub mod Steps
+pub mod Places
+pub mod Fields
+pub mod CellReads
+pub mod CellsReads
+pub mod Causes
+pub mod Beginnings
+pub mod Loop
