@@ -1,0 +1,9 @@
+pub mod Fronts
+pub mod WordBytes
+pub mod Quotes
+pub mod Spellings
+pub mod Taken
+pub mod Cuts
+pub mod Boundaries
+pub mod Values
+pub mod Slices

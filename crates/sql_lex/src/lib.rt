@@ -1,0 +1,27 @@
+//! Cuts an SQL text into tokens.
+//!
+//! A text is names, keywords, integers, quoted texts and symbols, with spaces and tabs between them.
+//! `lex` answers the tokens of a text, each with the place of the bytes that spell it, or the first
+//! place where a token would have to begin and none does. It answers exactly what the definition
+//! `tokens_of` says, want of memory apart, and the laws say what that is: the one way to read the
+//! text as spelled tokens with nothing but blanks beside them, where each is as long as it can be.
+#![tactic(auto)]
+
+mod bytes;
+mod integer;
+mod keyword;
+mod laws;
+pub mod limits;
+mod quoted;
+mod symbol;
+#[cfg(test)]
+mod tests;
+mod token;
+mod tokens;
+mod word;
+
+pub use keyword::{KEYWORDS, Keyword};
+pub use laws::{faults_are_where_no_token_begins, tokens_are_slices, tokens_are_the_text};
+pub use symbol::Symbol;
+pub use token::{LexFault, Token, TokenKind};
+pub use tokens::lex;
