@@ -129,10 +129,3 @@ module _ {X : Type 0} where
       by : (o : Option X) → find test xs ≡ o → (y : X) × (find test xs ≡ Some y)
       by None is = absurd (false≢true (sym (none_found test xs x is h) ∙ e))
       by (Some y) is = (y, is)
-
-  pub finds_none : (test : X → Bool) (xs : List X) → ((x : X) → Contains xs x → test x ≡ false) → find test xs ≡ None
-  finds_none test xs h = by (find test xs) refl
-    where
-      by : (o : Option X) → find test xs ≡ o → find test xs ≡ None
-      by None is = is
-      by (Some y) is = let found = found_among test xs y is in absurd (false≢true (sym (h y found.0) ∙ found.1))

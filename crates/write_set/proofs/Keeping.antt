@@ -1,5 +1,5 @@
 -- The candidate that keeps a row is the best one that a single pass over the candidates finds.
-use Rattle.std.proofs.Common.{◌≡◌, ⊎_elim, Bool, true, false, cond, not, ◌&&◌, ◌||◌, Option, None, Some, List, [], ◌∷◌, find, refl, sym, ap, ◌∙◌}
+use Rattle.std.proofs.Common.{◌≡◌, ⊎_elim, Bool, true, false, cond, not, ◌&&◌, ◌||◌, None, Some, List, [], ◌∷◌, find, refl, sym, ap, ◌∙◌}
 use Rattle.std.proofs.lemmas.Bool.{false≢true}
 use Rattle.geo_base.specs.declared.row_id.RowId.{RowId}
 use Rattle.geo_base.specs.declared.claim.Claim.{Claim}
@@ -8,7 +8,7 @@ use Rattle.geo_base.proofs.Winning.{beats_irreflexive, beats_transitive, beats_t
 use Rattle.write_set.specs.declared.entrant.Entrant.{Entrant}
 use Rattle.write_set.specs.Sets.{has_row}
 use Rattle.write_set.specs.Merge.{claim_of}
-use Rattle.write_set.specs.Entrants.{placed, takes_row, loses_row, keeps_row, keeper_of, is_better, best_of}
+use Rattle.write_set.specs.Entrants.{placed, takes_row, loses_row, keeps_row, keeper_of, best_of}
 use Rattle.write_set.proofs.Among.{true_or_false, and_true, any_among, any_found}
 
 -- ---- what beats a claim beats the others that don't beat it

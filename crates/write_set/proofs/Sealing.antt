@@ -1,9 +1,7 @@
 -- What all regions have sealed: the batches of a place, and that they stay when journals grow.
-use Rattle.std.proofs.Common.{◌≡◌, ◌⊎◌, inl, inr, ⊎_elim, ℕ, zero, suc, ◌+◌, ◌<◌, ◌≤◌, Some, List, [], ◌∷◌, ◌++◌, length, replicate, slice_set, refl, sym, ap, ◌∙◌, subst, subst₂, append-nil, length-append, length-set, arith}
+use Rattle.std.proofs.Common.{◌≡◌, ◌⊎◌, inl, inr, ⊎_elim, ℕ, zero, suc, ◌+◌, ◌<◌, ◌≤◌, Some, List, [], ◌∷◌, ◌++◌, length, slice_set, refl, sym, ap, ◌∙◌, subst, subst₂, append-nil, length-append, length-set, arith}
 use Rattle.geo_base.specs.declared.limits.TheConstants.{MAX_REGIONS}
 use Rattle.std.specs.List.{slice_get, cons_option}
-use Rattle.std.proofs.lemmas.List.{length-replicate}
-use Rattle.std.proofs.lemmas.Option.{slice_get_within}
 use Rattle.write_set.specs.declared.batch.Batch.{Batch}
 use Rattle.write_set.specs.Journal.{Journal, log_of, batch_at, last_sealed, batches_at, candidates_of, epochs_of, IsBatch, AreBatches, IsJournal, IsFront, Extends}
 
@@ -20,22 +18,6 @@ sealed_reach (log ∷ []) place h (suc region) within = absurd (omega arith)
 sealed_reach (log ∷ more ∷ logs) place h zero within = omega arith
 sealed_reach (log ∷ more ∷ logs) place h (suc region) within =
     sealed_reach (more ∷ logs) place (omega arith) region (omega arith)
-
--- and the other way round
-pub reach_sealed : (journal : Journal) (place : ℕ) → 1 ≤ length journal → Reach place journal → place < last_sealed journal
-reach_sealed [] place some reach = absurd (omega arith)
-reach_sealed (log ∷ []) place some reach = reach zero (omega arith)
-reach_sealed (log ∷ more ∷ logs) place some reach =
-    let here : place < length log = reach zero (omega arith) in
-    let rest = reach_sealed (more ∷ logs) place (omega arith) (λ region within. reach (suc region) (omega arith)) in
-    omega arith
-
--- a place at which each region has a batch is below the last sealed epoch
-pub batches_sealed : (journal : Journal) (place : ℕ) → 1 ≤ length journal →
-    ((region : ℕ) → region < length journal → (b : Batch) × (batch_at journal region place ≡ Some b)) → place < last_sealed journal
-batches_sealed journal place some found =
-    reach_sealed journal place some
-    (λ region within. slice_get_within (log_of journal region) place (found region within).0 (found region within).1)
 
 get_within : {X : Type 0} (xs : List X) (place : ℕ) → place < length xs → (x : X) × (slice_get xs place ≡ Some x)
 get_within [] place h = absurd (omega arith)
@@ -58,32 +40,6 @@ batches_length_reach (log ∷ logs) place reach =
 pub batches_length : (journal : Journal) (place : ℕ) → place < last_sealed journal → length (batches_at journal place) ≡ length journal
 batches_length journal place h = batches_length_reach journal place (sealed_reach journal place h)
 
-get_batch : (journal : Journal) (place region : ℕ) → Reach place journal →
-    region < length journal → slice_get (batches_at journal place) region ≡ batch_at journal region place
-get_batch [] place region reach within = absurd (omega arith)
-get_batch (log ∷ logs) place zero reach within =
-    let found = get_within log place (reach zero (omega arith)) in
-    ap (λ bs. slice_get bs zero) (batches_cons log logs place found.0 found.1) ∙ sym found.1
-get_batch (log ∷ logs) place (suc region) reach within =
-    let found = get_within log place (reach zero (omega arith)) in
-    ap (λ bs. slice_get bs (suc region)) (batches_cons log logs place found.0 found.1)
-    ∙ get_batch logs place region (λ k below. reach (suc k) (omega arith)) (omega arith)
-
--- and they stand in the order of the regions
-pub batches_place : (journal : Journal) (place region : ℕ) → place < last_sealed journal → region < length journal →
-    slice_get (batches_at journal place) region ≡ batch_at journal region place
-batches_place journal place region h within = get_batch journal place region (sealed_reach journal place h) within
-
--- a list of the batches that the regions have at the place
-pub batches_collected : (journal : Journal) (place : ℕ) (bs : List Batch) → length bs ≡ length journal →
-    ((region : ℕ) → region < length journal → slice_get bs region ≡ batch_at journal region place) → bs ≡ batches_at journal place
-batches_collected [] place [] same each = refl
-batches_collected [] place (b ∷ bs) same each = absurd (omega arith)
-batches_collected (log ∷ logs) place [] same each = absurd (omega arith)
-batches_collected (log ∷ logs) place (b ∷ bs) same each =
-    ap (λ rest. b ∷ rest) (batches_collected logs place bs (omega arith) (λ region within. each (suc region) (omega arith)))
-    ∙ sym (batches_cons log logs place b (sym (each zero (omega arith))))
-
 lawful_from : (journal : Journal) (place first : ℕ) → Reach place journal →
     ((region : ℕ) (b : Batch) → batch_at journal region place ≡ Some b → IsBatch (first + region) (place + 1) b) →
     AreBatches first (place + 1) (batches_at journal place)
@@ -97,7 +53,7 @@ lawful_from (log ∷ logs) place first reach lawful =
     subst (AreBatches first (place + 1)) (sym (batches_cons log logs place found.0 found.1))
     (subst (λ r. IsBatch r (place + 1) found.0) here (lawful zero found.0 found.1), rest)
 
--- which are lawful batches of that epoch
+-- the batches of such a place are lawful ones of that epoch
 pub batches_lawful : (journal : Journal) (place : ℕ) → IsJournal journal → place < last_sealed journal →
     AreBatches 0 (place + 1) (batches_at journal place)
 batches_lawful journal place lawful h =
@@ -242,23 +198,3 @@ with_batch_lawful journal region batch lawful new =
           (λ r. subst (IsBatch k (place + 1)) (sym r.2) (subst₂ (λ x y. IsBatch x (y + 1) batch) (sym r.0) (sym r.1) new))
           (with_batch_cases journal region k place batch b e);
     }
-
--- ---- the journal before the first batch
-
-pub empty_log : (regions region : ℕ) → log_of (replicate regions []) region ≡ []
-empty_log zero region = refl
-empty_log (suc regions) zero = refl
-empty_log (suc regions) (suc region) = empty_log regions region
-
-pub empty_lawful : (regions : ℕ) → 1 ≤ regions → regions ≤ MAX_REGIONS → IsJournal (replicate regions [])
-empty_lawful regions some few = record {
-  some = subst (λ n. 1 ≤ n) (sym (length-replicate regions start)) some;
-  few = subst (λ n. n ≤ MAX_REGIONS) (sym (length-replicate regions start)) few;
-  lawful = λ region place b e. absurd (nothing place b (subst (λ log. slice_get log place ≡ Some b) (empty_log regions region) e));
-}
-  where
-    start : List Batch
-    start = []
-
-    nothing : (place : ℕ) (b : Batch) → slice_get start place ≡ Some b → ⊥
-    nothing place b e = cc
