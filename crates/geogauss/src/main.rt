@@ -6,8 +6,10 @@
 //! promises the same for the words that ask for it. Standard input and output tell nothing.
 #![tactic(auto)]
 
-ghost use Rattle.std.specs.Prelude.{◌≡◌, ◌⊎◌};
+ghost use Rattle.std.specs.Prelude.{◌≡◌, ◌≢◌, ◌⊎◌, IsErr, IsOk};
+ghost use Rattle.std.specs.Process.{exit_status};
 ghost use Rattle.geogauss.specs.Command.{IsPlay};
+ghost use Rattle.geogauss.specs.Status.{number_of};
 
 mod command;
 mod events;
@@ -19,7 +21,7 @@ mod tests;
 mod top;
 
 use command::Words;
-use geo_io::{CleanKeepers, StdSink, StdSource};
+use geo_io::{CleanKeepers, Failed, StdSink, StdSource};
 use status::Status;
 use std::env;
 use std::io::{self, BufWriter, ErrorKind};
@@ -62,10 +64,27 @@ fn run<R: Input + Print + AllocGlobal + Threads + Wait>(rt: &R, words: &Words) -
     let mut out = StdSink::new(writer);
     let logs = CleanKeepers::new(alloc, Vec::new(alloc));
     let (status, _) = top(rt, alloc, words, &mut src, &mut out, logs);
-    match (status, out.flush()) {
+    ended(status, out.flush())
+}
+
+/// How the program ends after the last flush: where all else was done, a flush that failed is a write
+/// fault.
+fn ended(status: Status, flushed: Result<(), Failed>) -> Status
+    ensures lost { IsErr flushed → status ≡ Status.Done → result ≡ Status.WriteFault }
+    ensures kept { status ≢ Status.Done → result ≡ status }
+    ensures whole { IsOk flushed → result ≡ status }
+{
+    match (status, flushed) {
         (Status::Done, Err(_)) => Status::WriteFault,
         _ => status,
     }
+}
+
+/// What the process ends with.
+fn exit_code(status: Status) -> ExitCode
+    ensures { exit_status result ≡ number_of status }
+{
+    ExitCode::from(status.number())
 }
 
 fn main(rt: HostRuntime) -> ExitCode {
@@ -74,5 +93,5 @@ fn main(rt: HostRuntime) -> ExitCode {
         Err(fault) => word_status(&fault),
     };
     let _ = rt.eprintln(status);
-    ExitCode::from(status.number())
+    exit_code(status)
 }
