@@ -30,6 +30,21 @@ pub const MAX_ROW_CELLS: usize = 32;
 /// Cells of a line of an answer.
 pub const MAX_LINE_CELLS: usize = 64;
 
+/// Tables of one schema.
+pub const MAX_TABLES: usize = 64;
+
+/// Columns of a table.
+pub const MAX_COLUMNS: usize = 32;
+
+/// Indexes of a table.
+pub const MAX_INDEXES: usize = 4;
+
+/// Columns of an index.
+pub const MAX_INDEX_COLUMNS: usize = 4;
+
+/// Bytes of the name of a table, a column or an index, of which it has at least one.
+pub const MAX_NAME_BYTES: usize = 32;
+
 /// Sessions of one region.
 pub const SESSIONS_PER_REGION: u8 = 64;
 

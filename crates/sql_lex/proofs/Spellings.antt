@@ -8,7 +8,7 @@ use Rattle.std.specs.List.{prefix_len}
 use Rattle.std.specs.Str.{str_eq_ignore_ascii_case, str_to_ascii_lowercase, bytes_eq}
 use Rattle.std.specs.Str.Parse.{digits_value}
 use Rattle.geo_base.specs.declared.limits.TheConstants.{MAX_TEXT_BYTES}
-use Rattle.sql_lex.specs.declared.limits.TheConstants.{MAX_NAME_BYTES}
+use Rattle.geo_base.specs.declared.limits.TheConstants.{MAX_NAME_BYTES}
 use Rattle.sql_lex.specs.declared.keyword.Keyword.{Keyword}
 use Rattle.sql_lex.specs.declared.token.Piece.{Piece}
 use Rattle.sql_lex.specs.declared.token.TokenKind.TheVariants as kind

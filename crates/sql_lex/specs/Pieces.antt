@@ -4,7 +4,7 @@ use Rattle.std.specs.Char.{is_ascii_digit}
 use Rattle.std.specs.List.{prefix_len}
 use Rattle.std.specs.Option.{option_map}
 use Rattle.std.specs.Str.Parse.{digits_value}
-use Rattle.sql_lex.specs.declared.limits.TheConstants.{MAX_NAME_BYTES}
+use Rattle.geo_base.specs.declared.limits.TheConstants.{MAX_NAME_BYTES}
 use Rattle.sql_lex.specs.declared.keyword.Keyword.{Keyword}
 use Rattle.sql_lex.specs.declared.token.Piece.{Piece}
 use Rattle.sql_lex.specs.declared.token.TokenKind.{TokenKind}

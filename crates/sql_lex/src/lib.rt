@@ -11,7 +11,6 @@ mod bytes;
 mod integer;
 mod keyword;
 mod laws;
-pub mod limits;
 mod quoted;
 mod symbol;
 #[cfg(test)]

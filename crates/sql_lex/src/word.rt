@@ -6,9 +6,8 @@ ghost use Rattle.sql_lex.specs.Pieces as spec;
 
 use crate::bytes::word_len;
 use crate::keyword::keyword_of;
-use crate::limits::MAX_NAME_BYTES;
 use crate::token::{Piece, TokenKind};
-use geo_base::limits::MAX_TEXT_BYTES;
+use geo_base::limits::{MAX_NAME_BYTES, MAX_TEXT_BYTES};
 use geo_base::{NoMemory, Txt, TxtFault};
 use std::alloc::Global;
 

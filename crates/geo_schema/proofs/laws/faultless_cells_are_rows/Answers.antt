@@ -1,0 +1,5 @@
+use Rattle.geo_schema.proofs.Fits.{row_fits, fit_rows}
+use Rattle.geo_schema.proofs.laws.faultless_cells_are_rows.Goals as goal
+
+pub returns : goal.returns
+returns c table cells = (row_fits table cells, fit_rows table cells)

@@ -1,0 +1,6 @@
+pub mod Fitting
+pub mod Ranges
+pub mod Repeats
+pub mod Rows
+pub mod Schemas
+pub mod Tables

@@ -1,0 +1,32 @@
+//! The tables that every region knows: their columns, keys and indexes, which rows fit them, and the
+//! ranges of keys that a statement reads.
+//!
+//! A [`Schema`] is made once, from tables that break no limit, and contracts then see it as the list of
+//! them. Its rule is one function of that list, which says what is wrong first; and so is the rule of a
+//! row, which says which column is at fault first and why.
+#![tactic(auto)]
+
+mod alike;
+mod cell_list;
+mod column;
+mod fault;
+mod index;
+mod laws;
+mod place_list;
+mod range;
+mod row_rule;
+mod schema;
+mod table;
+mod table_rule;
+#[cfg(test)]
+mod tests;
+
+pub use cell_list::CellList;
+pub use column::{ColumnDef, ColumnList, Kind};
+pub use fault::{CellFault, SchemaFault};
+pub use index::{IndexDef, IndexList};
+pub use laws::{faultless_cells_are_rows, names_are_of_one_table};
+pub use place_list::PlaceList;
+pub use range::{Edge, KeyRange};
+pub use schema::Schema;
+pub use table::TableDef;

@@ -1,0 +1,97 @@
+//! Whether cells are a row of a table, and the key of a row.
+ghost use Rattle.std.specs.Prelude.{◌≡◌, ◌<◌, ◌≤◌, true, length, map, slice_index_or, IfOk};
+ghost use Rattle.std.specs.List.{All};
+ghost use Rattle.geo_base.specs.declared.limits.TheConstants.{MAX_COLUMNS};
+ghost use Rattle.geo_schema.specs.Rows.{has_type, is_too_long, is_in, cell_fault, row_fault, key_cells};
+ghost use Rattle.geo_schema.specs.Tables.{is_table};
+
+use crate::column::{ColumnDef, Kind};
+use crate::fault::CellFault;
+use crate::table::TableDef;
+use geo_base::{Cell, Duplicate, Key, NoMemory};
+use std::alloc::Global;
+
+fn has_type(kind: Kind, cell: &Cell) -> bool
+    ensures { result ≡ has_type kind cell.now }
+{
+    match (kind, cell) {
+        (_, Cell::Null) => true,
+        (Kind::Int, Cell::Int(_)) => true,
+        (Kind::Text { .. }, Cell::Text(_)) => true,
+        (Kind::Truth, Cell::Truth(_)) => true,
+        _ => false,
+    }
+}
+
+fn is_too_long(kind: Kind, cell: &Cell) -> bool
+    ensures { result ≡ is_too_long kind cell.now }
+{
+    match (kind, cell) {
+        (Kind::Text { max }, Cell::Text(text)) => text.text().len() > max as usize,
+        _ => false,
+    }
+}
+
+fn is_in(key: &[u8], place: u8) -> bool
+    ensures { result ≡ is_in key.now place }
+{
+    key.iter().any(|p| *p == place)
+}
+
+#[tactic(auto, unfolding(crate::specs::Rows::cell_fault))]
+fn cell_fault(key: &[u8], column: &ColumnDef, place: u8, cell: &Cell) -> Option<CellFault>
+    ensures { result ≡ cell_fault key.now column.now place cell.now }
+{
+    if !has_type(column.kind, cell) {
+        return Some(CellFault::TypeClash(place));
+    }
+    if matches!(cell, Cell::Null) && (column.not_null || is_in(key, place)) {
+        return Some(CellFault::NullNotAllowed(place));
+    }
+    if is_too_long(column.kind, cell) {
+        return Some(CellFault::TextTooLong(place));
+    }
+    None
+}
+
+/// Why the cells are no row of the table, if they are none. Takes a step for each cell and key place.
+#[tactic(auto, unfolding(crate::specs::Rows::row_fault))]
+pub fn row_fault(table: &TableDef, cells: &[Cell]) -> Option<CellFault>
+    requires { length table.now.columns ≤ MAX_COLUMNS }
+    ensures { result ≡ row_fault table.now cells.now }
+{
+    let columns = table.columns.items();
+    if cells.len() != columns.len() {
+        return Some(CellFault::WrongCount);
+    }
+    for (place, cell) in cells.iter().enumerate() {
+        let fault = cell_fault(table.key.items(), &columns[place], place as u8, cell);
+        if fault.is_some() {
+            return fault;
+        }
+    }
+    None
+}
+
+/// The key of a row that fits the table.
+#[tactic(auto, unfolding(crate::specs::Rows::key_cells))]
+pub fn key_of_row(alloc: Global, table: &TableDef, cells: &[Cell]) -> Result<Key, NoMemory>
+    requires rules { is_table table.now ≡ true }
+    requires fits { row_fault table.now cells.now ≡ None }
+    ensures { IfOk result (λ key. key ≡ key_cells table.now cells.now) }
+{
+    let copies = copy_places(alloc, table.key.items(), cells)?;
+    Ok(Key::new(copies).unwrap())
+}
+
+/// Copies of the cells at the places, in the order of the places.
+fn copy_places(alloc: Global, places: &[u8], cells: &[Cell]) -> Result<Vec<Cell>, NoMemory>
+    requires { All (λ place. place < length cells.now) places.now }
+    ensures { IfOk result (λ copies. copies.items ≡ map (λ place. slice_index_or cells.now place Cell.Null) places.now) }
+{
+    let mut copies = Vec::with_capacity(alloc, places.len())?;
+    for place in places {
+        copies.push(cells[*place as usize].copy(alloc)?)?;
+    }
+    Ok(copies)
+}
