@@ -1,12 +1,8 @@
 -- One step of a search from the front of a list, and of one for the first column at fault.
 use Rattle.std.proofs.Common.{◌≡◌, ℕ, ◌<◌, ◌+◌, Bool, List, [], ◌∷◌, ◌++◌, Some, if◌then◌else◌, length, take, drop, get_or, suc, true, false, refl, ap, ◌∙◌, add-one, drop-cons}
 use Rattle.std.specs.List.{list_any}
-use Rattle.std.specs.Option.{option_or}
 use Rattle.std.proofs.lemmas.Grind.{take_at_read}
-use Rattle.geo_base.specs.declared.cell.Cell.{Cell}
-use Rattle.geo_schema.specs.declared.column.ColumnDef.{ColumnDef}
 use Rattle.geo_schema.specs.Repeats.{first_repeat_after}
-use Rattle.geo_schema.specs.Rows.{cell_fault, cells_fault}
 
 module _ {A : Type 0} where
   -- from a place on, the list begins with the item there
@@ -35,9 +31,3 @@ module _ {A : Type 0} where
     pub no_repeat : list_any (λ earlier. same earlier item) (take i items) ≡ false →
         first_repeat_after same (take i items) (drop i items) ≡ first_repeat_after same (take (i + 1) items) (drop (i + 1) items)
     no_repeat like = step ∙ ap (λ (b : Bool). if b then Some item else first_repeat_after same (take (i + 1) items) (drop (i + 1) items)) like
-
-pub cells_fault-step : (key : List ℕ) (columns : List ColumnDef) (cells : List Cell) (i : ℕ) (column : ColumnDef) (cell : Cell) →
-    i < length columns → column ≡ get_or columns i column → i < length cells → cell ≡ get_or cells i cell →
-    cells_fault key i (drop i columns) (drop i cells)
-    ≡ option_or (cell_fault key column i cell) (cells_fault key (i + 1) (drop (i + 1) columns) (drop (i + 1) cells))
-cells_fault-step key columns cells i column cell h d k e = rw (drop_at columns i column h d, drop_at cells i cell k e) refl

@@ -68,9 +68,6 @@ pub record IsReadUpTo (whole done rest : List ℕ) : Type 0 where
   pub left : used + length rest ≡ length whole
   pub means : content whole ≡ after done used (content rest)
 
-pub read_nothing : (whole : List ℕ) → IsReadUpTo whole [] whole
-read_nothing whole = record { used = 0; left = omega arith; means = sym (after_none (content whole)) }
-
 -- after the bytes up to the next quote
 pub read_run : (whole done rest : List ℕ) → IsReadUpTo whole done rest → IsReadUpTo whole (done ++ take (prefix_len is_plain rest) rest) (drop (prefix_len is_plain rest) rest)
 read_run whole done rest read =

@@ -2,7 +2,7 @@
 use Rattle.std.proofs.Common.{◌≡◌, ◌<◌, ℕ, true, false, refl, arith}
 use Rattle.std.proofs.lemmas.Bool.Decides.{nat_tests}
 use Rattle.std.specs.Char.{is_ascii_digit}
-use Rattle.sql_lex.specs.Bytes.{is_blank, begins_word, is_in_word}
+use Rattle.sql_lex.specs.Bytes.{begins_word, is_in_word}
 
 pub in_word_ascii : (b : ℕ) → is_in_word b ≡ true → b < 128
 unfolding is_in_word
@@ -11,10 +11,6 @@ in_word_ascii b h = grind (arith, nat_tests)
 pub begins-in_word : (b : ℕ) → begins_word b ≡ true → is_in_word b ≡ true
 unfolding begins_word is_in_word
 begins-in_word b h = grind (arith, nat_tests)
-
-pub digit-in_word : (b : ℕ) → is_ascii_digit b ≡ true → is_in_word b ≡ true
-unfolding is_in_word
-digit-in_word b h = grind (arith, nat_tests)
 
 pub digit-begins_no_word : (b : ℕ) → is_ascii_digit b ≡ true → begins_word b ≡ false
 unfolding begins_word
@@ -35,7 +31,3 @@ outside-no_digit b h = grind (arith, nat_tests)
 pub zero-no_word : is_in_word 0 ≡ false
 unfolding is_in_word
 zero-no_word = refl
-
-pub blank-begins_nothing : (b : ℕ) → is_blank b ≡ true → (begins_word b ≡ false) × (is_ascii_digit b ≡ false) × (b < 33)
-unfolding begins_word is_blank
-blank-begins_nothing b h = (grind (arith, nat_tests), grind (arith, nat_tests), grind (arith, nat_tests))
