@@ -1,5 +1,5 @@
 -- The order of winning: strict, total on claims that differ, and the order of the words.
-use Rattle.std.proofs.Common.{◌≡◌, ◌<◌, ◌≤◌, ◌^◌, true, false, ◌∙◌, arith}
+use Rattle.std.proofs.Common.{◌≡◌, true, false, ◌∙◌, arith}
 use Rattle.std.specs.Prelude.{nat_lt}
 use Rattle.std.proofs.lemmas.Bool.Decides.{nat_tests}
 use Rattle.geo_base.specs.declared.claim.Claim.{Claim}
@@ -35,13 +35,3 @@ word_of_injective a b h k e =
     let below : nat_lt (word_of b) (word_of a) ≡ false = grind (arith, nat_tests) in
     let above : nat_lt (word_of a) (word_of b) ≡ false = grind (arith, nat_tests) in
     beats_total a b (beats_word a b h k ∙ below) (beats_word b a k h ∙ above)
-
--- the word of a claim is at least 2^32, so it is never 0
-pub word_of_least : (a : Claim) → 2 ^ 32 ≤ word_of a
-unfolding word_of
-word_of_least a = omega arith
-
--- the word of a claim has 64 bits
-pub word_of_most : (a : Claim) → IsClaim a → word_of a < 2 ^ 64
-unfolding word_of
-word_of_most a h = omega arith

@@ -2,8 +2,9 @@
 //! a candidate, its outcome, and the claim that two candidates of one epoch settle a row by.
 //!
 //! A text, a key, a row image and a line are checked once, when they are made, and contracts then
-//! see each as a list. Every type here has one total order, values that compare equal are one
-//! value, and a copy equals what it copies.
+//! see each as a list. Cells, texts, keys, row images, lines and names of rows have one total order;
+//! claims have the order of winning. Values that compare equal are one value, and a copy equals what
+//! it copies.
 #![tactic(auto)]
 
 mod cell;

@@ -18,6 +18,9 @@ pub const MAX_BATCH_BYTES: u64 = 4_194_304;
 /// Rows that one transaction changes.
 pub const MAX_SET_ROWS: u32 = 1024;
 
+/// Bytes of the spellings of one transaction's changes.
+pub const MAX_SET_BYTES: u64 = 1_048_576;
+
 /// Bytes of a text.
 pub const MAX_TEXT_BYTES: usize = 1024;
 

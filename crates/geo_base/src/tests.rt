@@ -1,6 +1,6 @@
 use crate::{
-    CandId, Cell, Claim, Duplicate, Key, Line, Outcome, RowId, RowImage, Txt, copy_items,
-    pack_claim, unpack_claim,
+    CandId, Cell, Claim, Duplicate, Key, KeyFault, Line, Outcome, RowId, RowImage, Txt, beats,
+    copy_items, pack_claim, unpack_claim,
 };
 use std::alloc::Global;
 use std::test::Fail;
@@ -62,17 +62,55 @@ fn copies_equal_what_they_copy(rt: HostRuntime) -> Result<(), Fail> {
     Ok(())
 }
 
+/// Cells that are NULL where it is told, and else a number.
+fn cells_of(alloc: Global, nulls: &[bool]) -> Result<Vec<Cell>, Fail> {
+    let mut cells = Vec::new(alloc);
+    for null in nulls {
+        cells.push(if *null { Cell::Null } else { Cell::Int(7) })?;
+    }
+    Ok(cells)
+}
+
+#[test]
+fn faults_of_keys(rt: HostRuntime) -> Result<(), Fail> {
+    let cases: [(&[bool], Option<KeyFault>); 7] = [
+        (&[], Some(KeyFault::WrongCount)),
+        (&[false; 5], Some(KeyFault::WrongCount)),
+        (&[true; 5], Some(KeyFault::WrongCount)),
+        (&[false, true, false, true], Some(KeyFault::Null(1))),
+        (&[true, true], Some(KeyFault::Null(0))),
+        (&[false], None),
+        (&[false; 4], None),
+    ];
+    for (nulls, fault) in cases {
+        let key = Key::new(cells_of(rt.alloc(), nulls)?);
+        assert_eq!(rt; key.err(), fault, "{nulls:?}");
+    }
+    Ok(())
+}
+
+#[test]
+fn counts_of_rows_and_lines(rt: HostRuntime) -> Result<(), Fail> {
+    let nulls = [true; 65];
+    for (count, is_row, is_line) in [
+        (0, false, false),
+        (1, true, true),
+        (32, true, true),
+        (33, false, true),
+        (64, false, true),
+        (65, false, false),
+    ] {
+        let row = RowImage::new(cells_of(rt.alloc(), &nulls[..count])?);
+        let line = Line::new(cells_of(rt.alloc(), &nulls[..count])?);
+        assert_eq!(rt; (row.is_ok(), line.is_ok()), (is_row, is_line), "{count}");
+    }
+    Ok(())
+}
+
+/// Claims with their words, the least first: each wins over those before it.
 #[test]
 fn words_of_claims(rt: HostRuntime) -> Result<(), Fail> {
-    let words = [
-        (
-            Claim {
-                start: 0,
-                csn: 0,
-                region: 0,
-            },
-            0x1_ffff_ffff,
-        ),
+    let rising = [
         (
             Claim {
                 start: 0,
@@ -83,6 +121,14 @@ fn words_of_claims(rt: HostRuntime) -> Result<(), Fail> {
         ),
         (
             Claim {
+                start: 0,
+                csn: 0,
+                region: 0,
+            },
+            0x1_ffff_ffff,
+        ),
+        (
+            Claim {
                 start: 2,
                 csn: 1,
                 region: 1,
@@ -90,10 +136,27 @@ fn words_of_claims(rt: HostRuntime) -> Result<(), Fail> {
             0x3_ffff_fefe,
         ),
     ];
-    for (claim, word) in words {
+    for (place, (claim, word)) in rising.iter().enumerate() {
         assert!(rt; claim.start < 9 && claim.csn < 9);
-        assert_eq!(rt; pack_claim(claim), word);
-        assert_eq!(rt; unpack_claim(word), Some(claim));
+        let made = (pack_claim(*claim), unpack_claim(*word));
+        assert_eq!(rt; made, (*word, Some(*claim)));
+        for (other_place, (other, other_word)) in rising.iter().enumerate() {
+            let wins = place > other_place;
+            assert_eq!(rt; (beats(*claim, *other), word > other_word), (wins, wins));
+        }
+    }
+    Ok(())
+}
+
+#[test]
+fn words_that_are_no_claims(rt: HostRuntime) -> Result<(), Fail> {
+    let least = Claim {
+        start: 0,
+        csn: 16_777_215,
+        region: 255,
+    };
+    for (word, claim) in [(0, None), (0xffff_ffff, None), (0x1_0000_0000, Some(least))] {
+        assert_eq!(rt; unpack_claim(word), claim);
     }
     Ok(())
 }
