@@ -24,7 +24,7 @@ use Rattle.geo_schema.proofs.Rules.{has_rules}
 pub no_column : ColumnDef
 no_column = record { name = []; kind = kind.Int; not_null = false }
 
-or_none : {A : Type 0} (a b : Option A) → option_or a b ≡ None → (a ≡ None) × (b ≡ None)
+pub or_none : {A : Type 0} (a b : Option A) → option_or a b ≡ None → (a ≡ None) × (b ≡ None)
 or_none None b h = (refl, h)
 or_none (Some x) b h = cc
 

@@ -28,5 +28,6 @@ pub use index::{IndexDef, IndexList};
 pub use laws::{faultless_cells_are_rows, names_are_of_one_table};
 pub use place_list::PlaceList;
 pub use range::{Edge, KeyRange};
+pub use row_rule::{cell_fault, is_in};
 pub use schema::Schema;
 pub use table::TableDef;

@@ -32,14 +32,17 @@ fn is_too_long(kind: Kind, cell: &Cell) -> bool
     }
 }
 
-fn is_in(key: &[u8], place: u8) -> bool
+/// Whether the column at the place is of the key. Takes a step for each key place.
+pub fn is_in(key: &[u8], place: u8) -> bool
     ensures { result ≡ is_in key.now place }
 {
     key.iter().any(|p| *p == place)
 }
 
+/// What is wrong with the cell of the column at the place, where the table has that key: its type, else a
+/// NULL where none may be, else its length. Takes a step for each key place.
 #[tactic(auto, unfolding(crate::specs::Rows::cell_fault))]
-fn cell_fault(key: &[u8], column: &ColumnDef, place: u8, cell: &Cell) -> Option<CellFault>
+pub fn cell_fault(key: &[u8], column: &ColumnDef, place: u8, cell: &Cell) -> Option<CellFault>
     ensures { result ≡ cell_fault key.now column.now place cell.now }
 {
     if !has_type(column.kind, cell) {
