@@ -11,9 +11,12 @@ use Rattle.geo_base.specs.declared.cell.Cell.{Cell}
 use Rattle.geo_base.specs.declared.cell.Cell.TheVariants.{Null, Int, Text, Truth}
 use Rattle.row_codec.specs.declared.fault.CellReadFault.{CellReadFault}
 use Rattle.row_codec.specs.declared.fault.CellReadFault.TheVariants.{Short, BadTag, BadUtf8, TooLong}
-use Rattle.row_codec.specs.Faults.{HasTextLength, IsFaultAt}
+use Rattle.row_codec.specs.Faults.{HasTextLength, IsFaultAt, IsFaultOfCells}
+use Rattle.row_codec.specs.Spelling.{cell_spelling, cells_spelling}
 use Rattle.row_codec.specs.Reading.{◌>>=◌, field_at, tag_at, number_at, content_at, text_at, int_cell_at, text_cell_at, tagged_at, cell_at, cells_at}
-use Rattle.row_codec.specs.Laws.{CellNotReadIsAtFault, FirstCellNotReadIsAtFault}
+use Rattle.row_codec.specs.Laws.{AreBytes}
+use Rattle.row_codec.proofs.Places.{stands_together}
+use Rattle.row_codec.proofs.CellReads.{cell_stands}
 use Rattle.row_codec.proofs.Steps.{bind_ok, failed, chosen, ok_is, fault_is, not_done}
 
 -- ---- fields
@@ -172,7 +175,7 @@ module _ (bytes : List ℕ) (at : ℕ) (e : CellReadFault) where
 
 -- ---- whole cells
 
-pub cell_fault : CellNotReadIsAtFault
+pub cell_fault : (bytes : List ℕ) (at : ℕ) (e : CellReadFault) → cell_at bytes at ≡ Err e → IsFaultAt bytes at e
 unfolding cell_at
 cell_fault bytes at e h =
     elim (failed (tag_at bytes at) (λ tag. tagged_at tag.0 bytes at tag.1) e h) [
@@ -180,14 +183,24 @@ cell_fault bytes at e h =
       | inr c ↦ let tag = tag_there bytes at c.0 c.1 in tagged_fault bytes at e c.0.0 c.0.1 (sym tag.behind) (omega (arith, tag.room)) tag.is c.2
     ]
 
-pub cells_fault : FirstCellNotReadIsAtFault
+pub cells_fault : (bytes : List ℕ) (at count : ℕ) (e : CellReadFault) → AreBytes bytes → cells_at bytes at count ≡ Err e → IsFaultOfCells bytes at count e
 unfolding cells_at
-cells_fault bytes at zero e h = not_done ([], at) e h
-cells_fault bytes at (suc count) e h =
+cells_fault bytes at zero e fits h = not_done ([], at) e h
+cells_fault bytes at (suc count) e fits h =
     elim (failed (cell_at bytes at) (λ first. cells_at bytes first.1 count >>= λ others. Ok (first.0 ∷ others.0, others.1)) e h) [
-      | inl c ↦ ([], at, omega arith, refl, cell_fault bytes at e c)
+      | inl c ↦ record { front = []; place = at; few = omega arith; are = tt; stands = record { parts = refl; behind = sym (add-zero at) }; fault = cell_fault bytes at e c }
       | inr c ↦ elim (failed (cells_at bytes c.0.1 count) (λ others. Ok (c.0.0 ∷ others.0, others.1)) e c.2) [
-        | inl d ↦ let rest = cells_fault bytes c.0.1 count e d in (c.0.0 ∷ rest.0, rest.1, omega (arith, rest.2), rw (c.1, rest.3) refl, rest.4)
+        | inl d ↦
+            let first = cell_stands bytes at c.0.1 c.0.0 fits c.1 in
+            let rest : IsFaultOfCells bytes c.0.1 count e = cells_fault bytes c.0.1 count e fits d in
+            record {
+              front = c.0.0 ∷ rest.front;
+              place = rest.place;
+              few = omega (arith, rest.few);
+              are = (first.0, rest.are);
+              stands = stands_together (cell_spelling c.0.0) (cells_spelling rest.front) bytes at c.0.1 rest.place first.1 rest.stands;
+              fault = rest.fault;
+            }
         | inr d ↦ not_done (c.0.0 ∷ d.0.0, d.0.1) e d.2
       ]
     ]

@@ -5,5 +5,7 @@ pub mod Fields
 pub mod CellReads
 pub mod CellsReads
 pub mod Causes
+pub mod Refusals
+pub mod Answers
 pub mod Beginnings
 pub mod Loop

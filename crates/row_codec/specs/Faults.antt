@@ -1,7 +1,9 @@
--- What each fault of a cell says of the bytes, apart from the order in which they are read.
+-- What each fault says of the bytes: all that stands before the place is in order, and what the bytes have at the place breaks the rule that the fault names.
 use Rattle.std.specs.Prelude.{◌≡◌, ℕ, ◌+◌, ◌<◌, ◌≤◌, ◌⊎◌, List, length, take, drop, slice_index, IsUtf8}
 use Rattle.std.specs.Int.{w16, from_be_bytes}
+use Rattle.geo_base.specs.declared.cell.Cell.{Cell}
 use Rattle.geo_base.specs.declared.limits.TheConstants.{MAX_TEXT_BYTES}
+use Rattle.row_codec.specs.Spelling.{cells_spelling, AreCells, StandsAt}
 use Rattle.row_codec.specs.declared.fault.CellReadFault.{CellReadFault}
 use Rattle.row_codec.specs.declared.fault.CellReadFault.TheVariants.{Short, BadTag, BadUtf8, TooLong, NoMemory}
 
@@ -28,3 +30,12 @@ IsFaultAt bytes at (BadUtf8 place) =
     (place ≡ at + 3)
     × ((count : ℕ) × HasTextLength bytes at count × (count ≤ MAX_TEXT_BYTES) × (at + 3 + count ≤ length bytes) × (¬ (IsUtf8 (take count (drop (at + 3) bytes)))))
 IsFaultAt bytes at NoMemory = ⊥
+
+-- of so many cells the first ones stand one after another from the place on, and the bytes have the fault where the next begins
+pub record IsFaultOfCells (bytes : List ℕ) (at count : ℕ) (e : CellReadFault) : Type 0 where
+  pub front : List Cell
+  pub place : ℕ
+  pub few : length front < count
+  pub are : AreCells front
+  pub stands : StandsAt (cells_spelling front) bytes at place
+  pub fault : IsFaultAt bytes place e

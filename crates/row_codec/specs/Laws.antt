@@ -1,8 +1,8 @@
 -- What spelling and reading have to do with each other.
-use Rattle.std.specs.Prelude.{◌≡◌, ℕ, ◌<◌, List, ◌++◌, length, slice_index, Ok, Err}
+use Rattle.std.specs.Prelude.{◌≡◌, ◌↔◌, ℕ, ◌<◌, List, ◌++◌, length, slice_index, Ok, Err}
 use Rattle.geo_base.specs.declared.cell.Cell.{Cell}
 use Rattle.row_codec.specs.declared.fault.CellReadFault.{CellReadFault}
-use Rattle.row_codec.specs.Faults.{IsFaultAt}
+use Rattle.row_codec.specs.Faults.{IsFaultAt, IsFaultOfCells}
 use Rattle.row_codec.specs.Spelling.{cell_spelling, cells_spelling, IsCell, AreCells, StandsAt}
 use Rattle.row_codec.specs.Reading.{cell_at, cells_at}
 
@@ -26,14 +26,13 @@ CellsReadAreSpelled = (bytes : List ℕ) (at next count : ℕ) (cells : List Cel
 abbrev pub SpelledCellsAreRead : Type 0
 SpelledCellsAreRead = (bytes : List ℕ) (at next : ℕ) (cells : List Cell) → AreCells cells → StandsAt (cells_spelling cells) bytes at next → cells_at bytes at (length cells) ≡ Ok (cells, next)
 
--- a cell that isn't read is at fault
+-- the reader answers a fault exactly where the bytes have it
 abbrev pub CellNotReadIsAtFault : Type 0
-CellNotReadIsAtFault = (bytes : List ℕ) (at : ℕ) (e : CellReadFault) → cell_at bytes at ≡ Err e → IsFaultAt bytes at e
+CellNotReadIsAtFault = (bytes : List ℕ) (at : ℕ) (e : CellReadFault) → (cell_at bytes at ≡ Err e) ↔ IsFaultAt bytes at e
 
--- of cells that aren't read, those before the first that is at fault are read
-abbrev pub FirstCellNotReadIsAtFault : Type 0
-FirstCellNotReadIsAtFault = (bytes : List ℕ) (at count : ℕ) (e : CellReadFault) → cells_at bytes at count ≡ Err e
-    → (front : List Cell) × (place : ℕ) × (length front < count) × (cells_at bytes at (length front) ≡ Ok (front, place)) × IsFaultAt bytes place e
+-- the same for cells one after another: those before the first that is at fault stand there
+abbrev pub CellsNotReadAreAtFault : Type 0
+CellsNotReadAreAtFault = (bytes : List ℕ) (at count : ℕ) (e : CellReadFault) → AreBytes bytes → (cells_at bytes at count ≡ Err e) ↔ IsFaultOfCells bytes at count e
 
 -- where the spellings of two cells begin the same bytes, the cells are one and so is what follows
 abbrev pub NoCellBeginsAnother : Type 0

@@ -1,4 +1,4 @@
-ghost use Rattle.row_codec.specs.Laws.{CellReadIsSpelled, SpelledCellIsRead, CellsReadAreSpelled, SpelledCellsAreRead, CellNotReadIsAtFault, FirstCellNotReadIsAtFault, NoCellBeginsAnother, NoCellsBeginOthers};
+ghost use Rattle.row_codec.specs.Laws.{CellReadIsSpelled, SpelledCellIsRead, CellsReadAreSpelled, SpelledCellsAreRead, CellNotReadIsAtFault, CellsNotReadAreAtFault, NoCellBeginsAnother, NoCellsBeginOthers};
 
 /// What is read is what is spelled there, for one cell and for cells one after another.
 pub fn reading_undoes_spelling()
@@ -8,10 +8,10 @@ pub fn reading_undoes_spelling()
     ensures only_all { SpelledCellsAreRead }
 {}
 
-/// A fault says what is wrong with the bytes, and where.
+/// A fault says what is wrong with the bytes, and where, and is answered exactly where the bytes have it.
 pub fn each_fault_has_its_cause()
     ensures cell { CellNotReadIsAtFault }
-    ensures cells { FirstCellNotReadIsAtFault }
+    ensures cells { CellsNotReadAreAtFault }
 {}
 
 /// No spelling of a cell begins another's, nor that of equally many cells, so equal spellings are

@@ -3,7 +3,8 @@
 //! A writer appends the spelling, or leaves the bytes as they were where there is no memory. A
 //! reader answers the cell whose spelling stands at a place, with the place behind it, and where
 //! there is none the first fault from the left. What is read is spelled so, what is spelled so is
-//! read again whatever follows it, and no spelling begins another.
+//! read again whatever follows it, no spelling begins another, and a fault is answered exactly where
+//! the bytes have it.
 #![tactic(auto)]
 
 mod fault;

@@ -1,6 +1,9 @@
-ghost use Rattle.std.specs.Prelude.{◌≡◌, ◌≤◌, length, true, false, IfOk, MatchOption};
+ghost use Rattle.std.specs.Prelude.{◌≡◌, ◌≤◌, ◌⊎◌, length, true, false, IfOk, IfErr, MatchOption};
 ghost use Rattle.std.specs.Int.{w16};
 ghost use Rattle.std.specs.Str.{is_utf8};
+ghost use Rattle.row_codec.specs.declared.fault.CellReadFault.TheVariants.{NoMemory};
+ghost use Rattle.row_codec.specs.Faults.{IsFaultAt, IsFaultOfCells};
+ghost use Rattle.row_codec.specs.Spelling.{cell_spelling, cells_spelling, IsCell, AreCells, StandsAt};
 ghost use Rattle.row_codec.specs.Reading.{Gives, field_at, tag_at, number_at, content_at, text_at, int_cell_at, text_cell_at, tagged_at, cell_at, cells_at};
 
 use crate::fault::CellReadFault;
@@ -132,9 +135,9 @@ fn read_tagged(
     }
 }
 
-/// The cell whose spelling stands at the place, and the place behind it.
+/// The cell whose tag stands at the place.
 #[tactic(auto, unfolding(crate::specs::Reading::cell_at))]
-pub fn read_cell(alloc: Global, bytes: &[u8], at: usize) -> Result<(Cell, usize), CellReadFault>
+fn read_from_tag(alloc: Global, bytes: &[u8], at: usize) -> Result<(Cell, usize), CellReadFault>
     requires { at ≤ length bytes.now }
     ensures exact { Gives (λ x. x) result (cell_at bytes.now at) }
     ensures within { IfOk result (λ x. x.1 ≤ length bytes.now) }
@@ -143,9 +146,18 @@ pub fn read_cell(alloc: Global, bytes: &[u8], at: usize) -> Result<(Cell, usize)
     read_tagged(alloc, bytes, tag, at, next)
 }
 
-/// So many cells whose spellings stand one after another from the place on, and the place behind
-/// them.
-pub fn read_cells(
+/// The cell whose spelling stands at the place, and the place behind it.
+pub fn read_cell(alloc: Global, bytes: &[u8], at: usize) -> Result<(Cell, usize), CellReadFault>
+    requires { at ≤ length bytes.now }
+    ensures exact { Gives (λ x. x) result (cell_at bytes.now at) }
+    ensures within { IfOk result (λ x. x.1 ≤ length bytes.now) }
+    ensures found { IfOk result (λ x. IsCell x.0 × StandsAt (cell_spelling x.0) bytes.now at x.1) }
+    ensures fault { IfErr result (λ e. (e ≡ NoMemory) ⊎ IsFaultAt bytes.now at e) }
+{
+    read_from_tag(alloc, bytes, at)
+}
+
+fn read_one_after_another(
     alloc: Global,
     bytes: &[u8],
     at: usize,
@@ -163,4 +175,22 @@ pub fn read_cells(
         next = behind;
     }
     Ok((cells, next))
+}
+
+/// So many cells whose spellings stand one after another from the place on, and the place behind
+/// them.
+pub fn read_cells(
+    alloc: Global,
+    bytes: &[u8],
+    at: usize,
+    count: u8,
+) -> Result<(Vec<Cell>, usize), CellReadFault>
+    requires { at ≤ length bytes.now }
+    ensures exact { Gives (λ x. (x.0.items, x.1)) result (cells_at bytes.now at count) }
+    ensures within { IfOk result (λ x. x.1 ≤ length bytes.now) }
+    ensures found { IfOk result (λ x. AreCells x.0.items × StandsAt (cells_spelling x.0.items) bytes.now at x.1) }
+    ensures len { IfOk result (λ x. length x.0.items ≡ count) }
+    ensures fault { IfErr result (λ e. (e ≡ NoMemory) ⊎ IsFaultOfCells bytes.now at count e) }
+{
+    read_one_after_another(alloc, bytes, at, count)
 }

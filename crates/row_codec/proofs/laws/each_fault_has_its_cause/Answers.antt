@@ -1,4 +1,4 @@
-use Rattle.row_codec.proofs.Causes.{cell_fault, cells_fault}
+use Rattle.row_codec.proofs.Refusals.{cell_fault, cells_fault}
 use Rattle.row_codec.proofs.laws.each_fault_has_its_cause.Goals as goal
 
 pub returns-clause-cell : goal.returns-clause-cell

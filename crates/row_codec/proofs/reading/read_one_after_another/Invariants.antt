@@ -1,7 +1,7 @@
 use Rattle.std.proofs.Common.{◌≤◌, length}
 use Rattle.row_codec.specs.Reading.{cells_at}
 use Rattle.row_codec.proofs.Loop.{ComesTo}
-use Rattle.row_codec.proofs.reading.read_cells.Given as goal
+use Rattle.row_codec.proofs.reading.read_one_after_another.Given as goal
 
 abbrev pub invariant-loop : goal.invariant-loop
 invariant-loop l = record {
