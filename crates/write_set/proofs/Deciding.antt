@@ -13,7 +13,7 @@ use Rattle.geo_base.specs.declared.outcome.Outcome.TheVariants.{Committed, Chang
 use Rattle.geo_base.specs.Order.{row_cmp, row_eq}
 use Rattle.geo_base.specs.OrderLaws.{row_cmp_total, same_row}
 use Rattle.geo_base.proofs.Winning.{beats_total}
-use Rattle.write_set.specs.Sets.{RowChange, has_row, RowsRise}
+use Rattle.write_set.specs.Sets.{ChangeOfRow, has_row, Rises}
 use Rattle.write_set.specs.Journal.{Journal, Placed, epochs_of}
 use Rattle.write_set.specs.Merge.{claim_of, wins, id_of, is_fresh, contenders, is_beaten_on, first_changed, first_beaten, changed_or, beaten_or_committed, winner_of, verdict_of, committed, last_change}
 use Rattle.write_set.specs.Rules.{IsLastChange, IsLeast, IsFresh, IsContender, IsBeaten, IsBest, IsVerdict}
@@ -24,7 +24,7 @@ use Rattle.write_set.proofs.Isolating.{row_above, rise_rest, changed_since}
 
 -- ---- the first row that is such is the least one
 
-least_found : (test : RowId → Bool) (set : List RowChange) (p : RowChange) (lower : RowId) → RowsRise set → find (λ q. test q.0) set ≡ Some p →
+least_found : (test : RowId → Bool) (set : List ChangeOfRow) (p : ChangeOfRow) (lower : RowId) → Rises set → find (λ q. test q.0) set ≡ Some p →
     has_row lower set ≡ true → row_cmp lower p.0 ≡ Less → test lower ≡ false
 least_found test [] p lower rise found has less = absurd (false≢true has)
 least_found test (q ∷ qs) p lower rise found has less =
@@ -34,7 +34,7 @@ least_found test (q ∷ qs) p lower rise found has less =
         (find (λ r. test r.0) qs ≡ Some p → has_row lower qs ≡ true → test lower ≡ false) → test lower ≡ false
     by true is e rest =
         let same : q ≡ p = cc in
-        let above = row_above lower q qs rise (subst (λ (r : RowChange). row_cmp lower r.0 ≡ Less) (sym same) less) in
+        let above = row_above lower q qs rise (subst (λ (r : ChangeOfRow). row_cmp lower r.0 ≡ Less) (sym same) less) in
         absurd (false≢true (sym above ∙ has))
     by false is e rest = ⊎_elim
         (λ t. ap test (row_same lower q.0 t) ∙ is)
@@ -93,10 +93,10 @@ module _ (last : RowId → ℕ) where
 
     -- ---- the verdict is one that the rules allow
     module _ (epoch : ℕ) where
-      pub verdict_allowed : (c : Placed) → RowsRise c.set → IsVerdict last epoch all c (verdict_of last epoch all c)
+      pub verdict_allowed : (c : Placed) → Rises c.set → IsVerdict last epoch all c (verdict_of last epoch all c)
       verdict_allowed c rise = by (first_changed last c) (first_beaten last all c) refl refl
         where
-          by : (o b : Option RowChange) → first_changed last c ≡ o → first_beaten last all c ≡ b →
+          by : (o b : Option ChangeOfRow) → first_changed last c ≡ o → first_beaten last all c ≡ b →
               IsVerdict last epoch all c (changed_or last (beaten_or_committed last epoch all c b) o)
           by (Some p) b f g =
               let found = found_among (λ q. nat_lt c.start (last q.0)) c.set p f in (
@@ -155,7 +155,7 @@ module _ (last : RowId → ℕ) where
           let named : id ≡ name = h.2.2 ∙ best_same to h.2.0 k.2.0 best k.2.1 ∙ sym k.2.2 in
           λ i. Beaten (same i) (named i)
 
-      pub verdict_is : (c : Placed) (o : Outcome) → RowsRise c.set → (verdict_of last epoch all c ≡ o) ↔ IsVerdict last epoch all c o
+      pub verdict_is : (c : Placed) (o : Outcome) → Rises c.set → (verdict_of last epoch all c ≡ o) ↔ IsVerdict last epoch all c o
       verdict_is c o rise =
           (λ e. subst (IsVerdict last epoch all c) e (verdict_allowed c rise), λ h. verdict_once c (verdict_of last epoch all c) o (verdict_allowed c rise) h)
 

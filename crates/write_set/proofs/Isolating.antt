@@ -1,6 +1,7 @@
 -- The transactions that commit are a snapshot-isolated history.
 use Rattle.std.proofs.Common.{◌≡◌, inl, inr, ⊎_elim, ℕ, zero, suc, ◌+◌, ◌<◌, ◌≤◌, Bool, true, false, cond, ◌||◌, Option, List, [], ◌∷◌, ◌++◌, length, Contains, refl, sym, ap, ◌∙◌, subst, arith}
 use Rattle.std.specs.List.{list_any}
+use Rattle.std.specs.List.Sorted.{IsStrictlySortedBy}
 use Rattle.std.specs.Ordering.{is_eq}
 use Rattle.std.specs.declared.cmp.Ordering.TheVariants.{Less}
 use Rattle.std.proofs.lemmas.Bool.{false≢true, cases_lt}
@@ -9,7 +10,7 @@ use Rattle.geo_base.specs.declared.row_image.RowImage.{RowImage}
 use Rattle.geo_base.specs.Order.{row_cmp, row_eq}
 use Rattle.geo_base.specs.OrderLaws.{row_cmp_total, row_eq_ties, row_eq_equiv}
 use Rattle.write_set.specs.declared.change.Change.{Change}
-use Rattle.write_set.specs.Sets.{RowChange, has_row, RowsRise}
+use Rattle.write_set.specs.Sets.{ChangeOfRow, has_row, Rises}
 use Rattle.write_set.specs.Journal.{Journal, Placed, candidates_of, batches_at, epochs_of, last_sealed, IsJournal}
 use Rattle.write_set.specs.Merge.{committed, last_change, verdict_of, is_committed}
 use Rattle.write_set.specs.Snapshot.{changes_of, image_of, image_after, snap_at}
@@ -23,42 +24,44 @@ use Rattle.write_set.proofs.Placing.{length_epochs, committed_lawful, committed_
 apart_from_less : (row other : RowId) → row_cmp row other ≡ Less → row_eq row other ≡ false
 apart_from_less row other less = row_eq_ties row other ∙ ap is_eq less
 
-pub row_above : (row : RowId) (p : RowChange) (ps : List RowChange) → RowsRise (p ∷ ps) → row_cmp row p.0 ≡ Less → has_row row (p ∷ ps) ≡ false
+pub row_above : (row : RowId) (p : ChangeOfRow) (ps : List ChangeOfRow) → Rises (p ∷ ps) → row_cmp row p.0 ≡ Less → has_row row (p ∷ ps) ≡ false
+unfolding IsStrictlySortedBy
 row_above row p [] rise less = ap (λ b. b || false) (apart_from_less row p.0 less)
 row_above row p (q ∷ qs) rise less =
     ap (λ b. b || has_row row (q ∷ qs)) (apart_from_less row p.0 less)
-    ∙ row_above row q qs rise.1 (row_cmp_total.trans row p.0 q.0 less rise.0)
+    ∙ row_above row q qs rise.1 (row_cmp_total.trans row p.0 q.0 less rise.0.0)
 
-row_once : (p : RowChange) (ps : List RowChange) → RowsRise (p ∷ ps) → has_row p.0 ps ≡ false
+row_once : (p : ChangeOfRow) (ps : List ChangeOfRow) → Rises (p ∷ ps) → has_row p.0 ps ≡ false
+unfolding IsStrictlySortedBy
 row_once p [] rise = refl
-row_once p (q ∷ qs) rise = row_above p.0 q qs rise.1 rise.0
+row_once p (q ∷ qs) rise = row_above p.0 q qs rise.1 rise.0.0
 
-pub rise_rest : (p : RowChange) (ps : List RowChange) → RowsRise (p ∷ ps) → RowsRise ps
-rise_rest p [] rise = tt
-rise_rest p (q ∷ qs) rise = rise.1
+pub rise_rest : (p : ChangeOfRow) (ps : List ChangeOfRow) → Rises (p ∷ ps) → Rises ps
+unfolding IsStrictlySortedBy
+rise_rest p ps rise = rise.1
 
-after_none : (ps : List RowChange) (row : RowId) (image : Option RowImage) → has_row row ps ≡ false → image_after ps row image ≡ image
+after_none : (ps : List ChangeOfRow) (row : RowId) (image : Option RowImage) → has_row row ps ≡ false → image_after ps row image ≡ image
 after_none [] row image h = refl
 after_none (p ∷ ps) row image h =
     let both = or_false (row_eq row p.0) (has_row row ps) h in
     ap (λ b. image_after ps row (cond b (image_of p.1) image)) both.0 ∙ after_none ps row image both.1
 
-after_append : (ps qs : List RowChange) (row : RowId) (image : Option RowImage) →
+after_append : (ps qs : List ChangeOfRow) (row : RowId) (image : Option RowImage) →
     image_after (ps ++ qs) row image ≡ image_after qs row (image_after ps row image)
 after_append [] qs row image = refl
 after_append (p ∷ ps) qs row image = after_append ps qs row (cond (row_eq row p.0) (image_of p.1) image)
 
-after_written : (ps : List RowChange) (row : RowId) (change : Change) (image : Option RowImage) → RowsRise ps → Contains ps (row, change) →
+after_written : (ps : List ChangeOfRow) (row : RowId) (change : Change) (image : Option RowImage) → Rises ps → Contains ps (row, change) →
     image_after ps row image ≡ image_of change
 after_written [] row change image rise h = absurd (among_none (row, change) h)
 after_written (p ∷ ps) row change image rise h =
     ⊎_elim
     (λ same.
-    let at : p.0 ≡ row = ap (λ (q : RowChange). q.0) same in
+    let at : p.0 ≡ row = ap (λ (q : ChangeOfRow). q.0) same in
     let is : row_eq row p.0 ≡ true = subst (λ r. row_eq r p.0 ≡ true) at (row_eq_equiv.refl p.0) in
     let once : has_row row ps ≡ false = subst (λ r. has_row r ps ≡ false) at (row_once p ps rise) in
     ap (λ b. image_after ps row (cond b (image_of p.1) image)) is
-    ∙ after_none ps row (image_of p.1) once ∙ ap (λ (q : RowChange). image_of q.1) same)
+    ∙ after_none ps row (image_of p.1) once ∙ ap (λ (q : ChangeOfRow). image_of q.1) same)
     (after_written ps row change (cond (row_eq row p.0) (image_of p.1) image) (rise_rest p ps rise))
     (among_cases p ps (row, change) h)
 

@@ -11,3 +11,5 @@ pub mod Judging
 pub mod Keeping
 pub mod Rising
 pub mod Merging
+pub mod Lookups
+pub mod Nets

@@ -4,23 +4,20 @@ use Rattle.std.specs.List.{filter, find, list_any}
 use Rattle.std.specs.Map.{keys_of, lookup}
 use Rattle.std.specs.BTreeMap.{insert_entry, is_at}
 use Rattle.std.specs.Option.{option_map, unwrap_or}
-use Rattle.std.specs.Ordering.{match_ordering, is_eq}
-use Rattle.std.specs.declared.cmp.Ordering.{Ordering}
-use Rattle.std.specs.declared.cmp.Ordering.TheVariants.{Less, Equal, Greater}
 use Rattle.std.proofs.lemmas.List.Elements.{All-cons}
 use Rattle.std.proofs.lemmas.List.Folds.{list_any-append}
 use Rattle.geo_base.specs.declared.limits.TheConstants.{MAX_CANDIDATES}
 use Rattle.geo_base.specs.declared.outcome.Outcome.TheVariants.{Beaten}
 use Rattle.geo_base.specs.declared.row_id.RowId.{RowId}
 use Rattle.geo_base.specs.Order.{row_cmp, row_eq}
-use Rattle.geo_base.specs.OrderLaws.{row_cmp_total, same_row}
 use Rattle.write_set.specs.declared.batch.Batch.{Batch}
 use Rattle.write_set.specs.declared.entrant.Entrant.{Entrant}
-use Rattle.write_set.specs.Sets.{RowChange, has_row}
+use Rattle.write_set.specs.Sets.{ChangeOfRow, has_row}
 use Rattle.write_set.specs.Journal.{Placed, Epochs, AreBatches}
 use Rattle.write_set.specs.Merge.{wins, id_of, is_fresh, contenders, is_beaten_on, winner_of, first_changed, first_beaten, changed_or, beaten_or_committed, verdict_of, committed, last_change, verdicts}
 use Rattle.write_set.specs.Snapshot.{changes_of, overlay}
 use Rattle.write_set.specs.Entrants.{placed, fresh_of, loses_row, keeper_of, first_lost, lost_or_committed, outcome_of, writes_of}
+use Rattle.write_set.proofs.Lookups.{lookup_put}
 use Rattle.write_set.specs.Plain.{Merged, IsMergeOf, last_in, noted}
 
 -- ---- lists
@@ -54,7 +51,7 @@ module _ (last : RowId → ℕ) (epoch : ℕ) (all : List Placed) (fresh : List 
   keeper_is : (row : RowId) → option_map placed (keeper_of fresh row) ≡ winner_of last all row
   keeper_is row = find_having (λ d. not (loses_row fresh d row)) row fresh ∙ (λ i. find (λ d. not (loses_is d row i)) (having_is row i))
 
-  lost_is : (c : Placed) (p : Option RowChange) → lost_or_committed epoch fresh c p ≡ beaten_or_committed last epoch all c p
+  lost_is : (c : Placed) (p : Option ChangeOfRow) → lost_or_committed epoch fresh c p ≡ beaten_or_committed last epoch all c p
   lost_is c None = refl
   lost_is c (Some p) = ap (λ w. Beaten p.0 (id_of epoch (unwrap_or w c))) (keeper_is p.0)
 
@@ -66,47 +63,12 @@ module _ (last : RowId → ℕ) (epoch : ℕ) (all : List Placed) (fresh : List 
 
 -- ---- the last changes, with an epoch at more rows
 
-put_apart : (a b : Bool) (v x o : Option ℕ) → (a ≡ true → b ≡ true → ⊥) → (if b then x else (if a then v else o)) ≡ (if a then v else (if b then x else o))
-put_apart true true v x o apart = absurd (apart refl refl)
-put_apart true false v x o apart = refl
-put_apart false true v x o apart = refl
-put_apart false false v x o apart = refl
-
-put_over : (a : Bool) (v x o : Option ℕ) → (if a then v else o) ≡ (if a then v else (if a then x else o))
-put_over true v x o = refl
-put_over false v x o = refl
-
-is_Equal : (o : Ordering) → is_eq o ≡ true → o ≡ Equal
-is_Equal Less h = cc
-is_Equal Equal h = refl
-is_Equal Greater h = cc
-
-lookup_put : (q row : RowId) (v : ℕ) (l : List (RowId × ℕ)) → lookup (is_at (row_cmp q)) (insert_entry row_cmp l row v) ≡ (if is_at (row_cmp q) row then Some v else lookup (is_at (row_cmp q)) l)
-lookup_put q row v [] = refl
-lookup_put q row v (x ∷ l) = at (row_cmp row x.0) refl (lookup_put q row v l)
-  where
-    test : RowId → Bool
-    test = is_at (row_cmp q)
-
-    at : (o : Ordering) → row_cmp row x.0 ≡ o → lookup (is_at (row_cmp q)) (insert_entry row_cmp l row v) ≡ (if is_at (row_cmp q) row then Some v else lookup (is_at (row_cmp q)) l) → lookup (is_at (row_cmp q)) (match_ordering (row_cmp row x.0) ((row, v) ∷ x ∷ l) ((x.0, v) ∷ l) (x ∷ insert_entry row_cmp l row v)) ≡ (if is_at (row_cmp q) row then Some v else lookup (is_at (row_cmp q)) (x ∷ l))
-    at Less e more = rw e refl
-    at Equal e more = rw (e, same_row row x.0 e) (put_over (is_at (row_cmp q) x.0) (Some v) (Some x.1) (lookup (is_at (row_cmp q)) l))
-    at Greater e more =
-        rw (e, more)
-        (put_apart (is_at (row_cmp q) row) (is_at (row_cmp q) x.0) (Some v) (Some x.1) (lookup (is_at (row_cmp q)) l)
-        (λ a b.
-        let first : row_cmp q row ≡ Equal = is_Equal (row_cmp q row) a in
-        let second : row_cmp q x.0 ≡ Equal = is_Equal (row_cmp q x.0) b in
-        let both : row_cmp q x.0 ≡ row_cmp row x.0 = row_cmp_total.congr q row x.0 first in
-        cc))
-
 value_or : (b : Bool) (v : ℕ) (o : Option ℕ) → unwrap_or (if b then Some v else o) 0 ≡ (if b then v else unwrap_or o 0)
 value_or true v o = refl
 value_or false v o = refl
 
 last_put : (q row : RowId) (v : ℕ) (l : List (RowId × ℕ)) → last_in (insert_entry row_cmp l row v) q ≡ (if row_eq q row then v else last_in l q)
-unfolding row_eq
-last_put q row v l = ap (λ o. unwrap_or o 0) (lookup_put q row v l) ∙ value_or (is_at (row_cmp q) row) v (lookup (is_at (row_cmp q)) l)
+last_put q row v l = ap (λ o. unwrap_or o 0) (lookup_put l row q v) ∙ value_or (row_eq q row) v (lookup (is_at (row_cmp q)) l)
 
 put_twice : (a b : Bool) (v x : ℕ) → (if a then v else (if b then v else x)) ≡ (if b || a then v else x)
 put_twice true true v x = refl
@@ -121,7 +83,7 @@ last_noted q epoch l (row ∷ rows) =
     ∙ ap (λ x. if list_any (row_eq q) rows then epoch else x) (last_put q row epoch l)
     ∙ put_twice (list_any (row_eq q) rows) (row_eq q row) epoch (last_in l q)
 
-any_key : (q : RowId) (set : List RowChange) → list_any (row_eq q) (keys_of set) ≡ has_row q set
+any_key : (q : RowId) (set : List ChangeOfRow) → list_any (row_eq q) (keys_of set) ≡ has_row q set
 any_key q [] = refl
 any_key q (p ∷ ps) = ap (λ b. row_eq q p.0 || b) (any_key q ps)
 
@@ -144,7 +106,7 @@ module _ (epochs : Epochs) (old : Merged) (merge : IsMergeOf epochs old) (all : 
   writes_are : writes_of (outcome_of (last_in old.changes) (old.epoch + 1) fresh) all ≡ changes_of (committed (all ∷ epochs))
   writes_are i = writes_of (outcomes_are i) all
 
-  module _ (new : Merged) (writes : List RowChange) (writes_is : writes ≡ writes_of (outcome_of (last_in old.changes) (old.epoch + 1) fresh) all) where
+  module _ (new : Merged) (writes : List ChangeOfRow) (writes_is : writes ≡ writes_of (outcome_of (last_in old.changes) (old.epoch + 1) fresh) all) where
     newest_changes : new.changes ≡ noted (old.epoch + 1) old.changes (keys_of writes) → (row : RowId) → last_in new.changes row ≡ last_change (all ∷ epochs) row
     newest_changes changes row =
         ap (λ l. last_in l row) changes

@@ -15,7 +15,7 @@ use Rattle.geo_base.specs.declared.row_id.RowId.{RowId}
 use Rattle.geo_base.specs.Order.{row_cmp}
 use Rattle.geo_base.specs.OrderLaws.{row_cmp_total}
 use Rattle.write_set.specs.Places.{StandsAt, FitsAt}
-use Rattle.write_set.specs.Plain.{Rises}
+use Rattle.write_set.specs.Sets.{Rises}
 
 -- what one comparison says of the other way round
 pub turned : (a b : RowId) (o : Ordering) → row_cmp a b ≡ o → row_cmp b a ≡ ordering_reverse o

@@ -1,17 +1,18 @@
 -- Entries that rise still do after one is put in or taken away.
-use Rattle.std.proofs.Common.{◌≡◌, List, [], ◌∷◌, refl, Bool, true, false}
+use Rattle.std.proofs.Common.{◌≡◌, ℕ, zero, suc, ◌+◌, ◌<◌, List, [], ◌∷◌, ◌++◌, length, take, get_or, refl, sym, ap, ◌∙◌, Bool, true, false, arith}
 use Rattle.std.specs.List.{AllByRecursion}
 use Rattle.std.specs.List.Sorted.{IsStrictlySortedBy}
 use Rattle.std.specs.Map.{keys_of, remove_entry}
 use Rattle.std.specs.BTreeMap.{insert_entry}
 use Rattle.std.specs.Ordering.{match_ordering}
+use Rattle.std.proofs.lemmas.List.{take_more}
 use Rattle.std.specs.declared.cmp.Ordering.{Ordering}
 use Rattle.std.specs.declared.cmp.Ordering.TheVariants.{Less, Equal, Greater}
 use Rattle.geo_base.specs.declared.row_id.RowId.{RowId}
 use Rattle.geo_base.specs.Order.{row_cmp}
 use Rattle.geo_base.specs.OrderLaws.{row_cmp_total}
 use Rattle.write_set.proofs.Places.{turned}
-use Rattle.write_set.specs.Plain.{Rises}
+use Rattle.write_set.specs.Sets.{ChangeOfRow, Rises, IsWriteSet}
 
 module _ {X : Type 0} where
   -- the row is less than those of all the entries
@@ -21,6 +22,11 @@ module _ {X : Type 0} where
   below_all : (a b : RowId) (l : List (RowId × X)) → row_cmp a b ≡ Less → IsBelow b l → IsBelow a l
   below_all a b [] h all = tt
   below_all a b (x ∷ l) h all = (row_cmp_total.trans a b x.0 h all.0, below_all a b l h all.1)
+
+  -- an entry in front of rising ones, the first of which is greater
+  pub rises_before : (p q : RowId × X) (l : List (RowId × X)) → row_cmp p.0 q.0 ≡ Less → Rises (q ∷ l) → Rises (p ∷ q ∷ l)
+  unfolding IsStrictlySortedBy
+  rises_before p q l h rises = ((h, below_all p.0 q.0 l h rises.0), rises)
 
   -- ---- an entry put in
 
@@ -63,3 +69,34 @@ module _ {X : Type 0} where
   unfolding IsStrictlySortedBy
   rises_removed test [] rises = tt
   rises_removed test (x ∷ l) rises = rises_removed_at (test x.0) test x l refl rises (rises_removed test l rises.1)
+
+  -- ---- an entry behind all the others
+
+  below_at : (row : RowId) (l : List (RowId × X)) (i : ℕ) (d : RowId × X) → IsBelow row l → i < length l → row_cmp row (get_or l i d).0 ≡ Less
+  below_at row [] i d all within = absurd (omega (arith, within))
+  below_at row (x ∷ l) zero d all within = all.0
+  below_at row (x ∷ l) (suc i) d all within = below_at row l i d all.1 (omega (arith, within))
+
+  put_behind : (l : List (RowId × X)) (i : ℕ) (d : RowId × X) → Rises l → i < length l →
+      insert_entry row_cmp (take i l) (get_or l i d).0 (get_or l i d).1 ≡ take i l ++ get_or l i d ∷ []
+  unfolding IsStrictlySortedBy
+  put_behind [] i d rises within = absurd (omega (arith, within))
+  put_behind (x ∷ l) zero d rises within = refl
+  put_behind (x ∷ l) (suc i) d rises within =
+      let after : row_cmp (get_or l i d).0 x.0 ≡ Greater = turned x.0 (get_or l i d).0 Less (below_at x.0 l i d rises.0 (omega (arith, within))) in
+      rw after (ap (λ es. x ∷ es) (put_behind l i d rises.1 (omega (arith, within))))
+
+  -- the next of rising entries put into those before it
+  pub put_next : (l : List (RowId × X)) (i : ℕ) (d : RowId × X) → Rises l → i < length l →
+      insert_entry row_cmp (take i l) (get_or l i d).0 (get_or l i d).1 ≡ take (i + 1) l
+  put_next l i d rises within = put_behind l i d rises within ∙ sym (take_more l i d within)
+
+-- ---- the least write sets
+
+pub no_changes : IsWriteSet []
+unfolding IsStrictlySortedBy
+no_changes = record { rising = tt; few = omega arith }
+
+pub one_change : (p : ChangeOfRow) → IsWriteSet (p ∷ [])
+unfolding IsStrictlySortedBy
+one_change p = record { rising = (tt, tt); few = omega arith }

@@ -8,7 +8,7 @@ use Rattle.geo_base.specs.declared.outcome.Outcome.TheVariants.{Beaten}
 use Rattle.geo_base.specs.Order.{row_eq}
 use Rattle.geo_base.specs.OrderLaws.{row_eq_decides, row_eq_equiv}
 use Rattle.geo_base.proofs.Winning.{beats_irreflexive, beats_transitive, beats_total}
-use Rattle.write_set.specs.Sets.{RowChange, has_row}
+use Rattle.write_set.specs.Sets.{ChangeOfRow, has_row}
 use Rattle.write_set.specs.Journal.{Placed}
 use Rattle.write_set.specs.Merge.{claim_of, wins, id_of, is_fresh, contenders, is_beaten_on, winner_of, first_changed, first_beaten, changed_or, beaten_or_committed, verdict_of, is_committed, committed_of}
 use Rattle.write_set.proofs.Among.{true_or_false, and_true, among_none, among_first, among_later, among_cases, any_among, none_among, any_found, none_passes, all_among, all_pass, filtered_among, among_filtered, found_among, none_found, finds}
@@ -18,12 +18,12 @@ use Rattle.write_set.proofs.Among.{true_or_false, and_true, among_none, among_fi
 pub row_same : (a b : RowId) → row_eq a b ≡ true → a ≡ b
 row_same a b e = (row_eq_decides a b).0 e
 
-pub row_found : (row : RowId) (set : List RowChange) → has_row row set ≡ true → (p : RowChange) × Contains set p × (row ≡ p.0)
+pub row_found : (row : RowId) (set : List ChangeOfRow) → has_row row set ≡ true → (p : ChangeOfRow) × Contains set p × (row ≡ p.0)
 row_found row set e =
     let found = any_found (λ p. row_eq row p.0) set e in
     (found.0, found.1, row_same row found.0.0 found.2)
 
-pub row_among : (p : RowChange) (set : List RowChange) → Contains set p → has_row p.0 set ≡ true
+pub row_among : (p : ChangeOfRow) (set : List ChangeOfRow) → Contains set p → has_row p.0 set ≡ true
 row_among p set h = any_among (λ q. row_eq p.0 q.0) set p h (row_eq_equiv.refl p.0)
 
 -- ---- freshness, where `last` gives each row's last change
@@ -68,7 +68,7 @@ module _ (last : RowId → ℕ) where
       pub committed_is : (c : Placed) → is_committed (verdict_of last epoch all c) ≡ true → (first_changed last c ≡ None) × (first_beaten last all c ≡ None)
       committed_is c e = by (first_changed last c) (first_beaten last all c) refl refl e
         where
-          by : (o b : Option RowChange) → first_changed last c ≡ o → first_beaten last all c ≡ b →
+          by : (o b : Option ChangeOfRow) → first_changed last c ≡ o → first_beaten last all c ≡ b →
               is_committed (changed_or last (beaten_or_committed last epoch all c b) o) ≡ true → (first_changed last c ≡ None) × (first_beaten last all c ≡ None)
           by None None f g h = (f, g)
           by None (Some p) f g h = absurd (false≢true h)
@@ -154,7 +154,7 @@ module _ (last : RowId → ℕ) (all : List Placed) where
       (w : Placed) × IsWinner row w × (id ≡ id_of epoch w)
   beaten_winner epoch c row id e = by (first_changed last c) (first_beaten last all c) refl e
     where
-      by : (o b : Option RowChange) → first_beaten last all c ≡ b →
+      by : (o b : Option ChangeOfRow) → first_beaten last all c ≡ b →
           changed_or last (beaten_or_committed last epoch all c b) o ≡ Beaten row id → (w : Placed) × IsWinner row w × (id ≡ id_of epoch w)
       by (Some p) b g h = cc
       by None None g h = cc

@@ -7,7 +7,7 @@ use Rattle.geo_base.specs.declared.row_id.RowId.{RowId}
 use Rattle.geo_base.specs.declared.outcome.Outcome.{Outcome}
 use Rattle.geo_base.specs.declared.outcome.Outcome.TheVariants.{Committed, Beaten}
 use Rattle.write_set.specs.declared.entrant.Entrant.{Entrant}
-use Rattle.write_set.specs.Sets.{RowChange, has_row}
+use Rattle.write_set.specs.Sets.{ChangeOfRow, has_row}
 use Rattle.write_set.specs.Journal.{Placed}
 use Rattle.write_set.specs.Merge.{wins, id_of, is_fresh, first_changed, changed_or, is_committed}
 use Rattle.write_set.specs.Snapshot.{changes_of}
@@ -47,11 +47,11 @@ best_of best [] row = best
 best_of best (d ∷ ds) row = best_of (if is_better best d row then Some d else best) ds row
 
 -- the candidate's first row that it loses
-abbrev pub first_lost : List Entrant → Placed → Option RowChange
+abbrev pub first_lost : List Entrant → Placed → Option ChangeOfRow
 first_lost fresh c = find (λ p. loses_row fresh c p.0) c.set
 
 -- beaten on that row by the one that keeps it, if there is one, and else committed
-abbrev pub lost_or_committed : ℕ → List Entrant → Placed → Option RowChange → Outcome
+abbrev pub lost_or_committed : ℕ → List Entrant → Placed → Option ChangeOfRow → Outcome
 lost_or_committed epoch fresh c None = Committed
 lost_or_committed epoch fresh c (Some p) = Beaten p.0 (id_of epoch (unwrap_or (option_map placed (keeper_of fresh p.0)) c))
 
@@ -60,5 +60,5 @@ abbrev pub outcome_of : (RowId → ℕ) → ℕ → List Entrant → Placed → 
 outcome_of last epoch fresh c = changed_or last (lost_or_committed epoch fresh c (first_lost fresh c)) (first_changed last c)
 
 -- the changes of those of the candidates that commit
-abbrev pub writes_of : (Placed → Outcome) → List Placed → List RowChange
+abbrev pub writes_of : (Placed → Outcome) → List Placed → List ChangeOfRow
 writes_of outcome cs = changes_of (filter (λ c. is_committed (outcome c)) cs)

@@ -5,7 +5,7 @@ use Rattle.std.specs.Prelude.{slice_index_or}
 use Rattle.geo_base.specs.declared.limits.TheConstants.{MAX_REGIONS, MAX_AGE, MAX_CANDIDATES}
 use Rattle.write_set.specs.declared.candidate.Candidate.{Candidate}
 use Rattle.write_set.specs.declared.batch.Batch.{Batch}
-use Rattle.write_set.specs.Sets.{RowChange, IsWriteSet}
+use Rattle.write_set.specs.Sets.{ChangeOfRow, IsWriteSet}
 
 -- for each region the list of its batches: the batch of epoch e stands at place e - 1
 abbrev pub Journal : Type 0
@@ -30,7 +30,7 @@ pub record Placed : Type 0 where
   pub region : ℕ
   pub csn : ℕ
   pub start : ℕ
-  pub set : List RowChange
+  pub set : List ChangeOfRow
 
 -- a region's candidates, the first of which has this commit number
 abbrev pub placed_from : ℕ → ℕ → List Candidate → List Placed

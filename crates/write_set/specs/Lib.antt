@@ -8,3 +8,4 @@ pub mod Plain
 pub mod Places
 pub mod Entrants
 pub mod Rules
+pub mod Net

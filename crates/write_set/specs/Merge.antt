@@ -7,7 +7,7 @@ use Rattle.geo_base.specs.declared.claim.Claim.{Claim}
 use Rattle.geo_base.specs.declared.numbers.CandId.{CandId}
 use Rattle.geo_base.specs.declared.outcome.Outcome.{Outcome}
 use Rattle.geo_base.specs.declared.outcome.Outcome.TheVariants.{Committed, Changed, Beaten}
-use Rattle.write_set.specs.Sets.{RowChange, has_row}
+use Rattle.write_set.specs.Sets.{ChangeOfRow, has_row}
 use Rattle.write_set.specs.Journal.{Placed, Epochs}
 
 -- what a candidate is compared with others of its epoch by
@@ -39,20 +39,20 @@ abbrev pub winner_of : (RowId → ℕ) → List Placed → RowId → Option Plac
 winner_of last all row = find (λ d. not (is_beaten_on last all d row)) (contenders last all row)
 
 -- the first row of the candidate that was changed after its start
-abbrev pub first_changed : (RowId → ℕ) → Placed → Option RowChange
+abbrev pub first_changed : (RowId → ℕ) → Placed → Option ChangeOfRow
 first_changed last c = find (λ p. nat_lt c.start (last p.0)) c.set
 
 -- the first row of the candidate on which a contender beats it
-abbrev pub first_beaten : (RowId → ℕ) → List Placed → Placed → Option RowChange
+abbrev pub first_beaten : (RowId → ℕ) → List Placed → Placed → Option ChangeOfRow
 first_beaten last all c = find (λ p. is_beaten_on last all c p.0) c.set
 
 -- aborted by a change of that row, if there is one, and else as given
-abbrev pub changed_or : (RowId → ℕ) → Outcome → Option RowChange → Outcome
+abbrev pub changed_or : (RowId → ℕ) → Outcome → Option ChangeOfRow → Outcome
 changed_or last outcome None = outcome
 changed_or last outcome (Some p) = Changed p.0 (last p.0)
 
 -- beaten on that row by its winner, if there is one, and else committed
-abbrev pub beaten_or_committed : (RowId → ℕ) → ℕ → List Placed → Placed → Option RowChange → Outcome
+abbrev pub beaten_or_committed : (RowId → ℕ) → ℕ → List Placed → Placed → Option ChangeOfRow → Outcome
 beaten_or_committed last epoch all c None = Committed
 beaten_or_committed last epoch all c (Some p) = Beaten p.0 (id_of epoch (unwrap_or (winner_of last all p.0) c))
 

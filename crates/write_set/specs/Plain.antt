@@ -1,9 +1,8 @@
 -- What the plain merge holds after some epochs.
 use Rattle.std.specs.Prelude.{◌≡◌, ℕ, List, [], ◌∷◌, length, unwrap_or}
-use Rattle.std.specs.Map.{keys_of, lookup}
+use Rattle.std.specs.Map.{lookup}
 use Rattle.geo_base.specs.declared.row_id.RowId.{RowId}
 use Rattle.std.specs.BTreeMap.{insert_entry, is_at}
-use Rattle.std.specs.List.Sorted.{IsStrictlySortedBy}
 use Rattle.geo_base.specs.Order.{row_cmp}
 use Rattle.write_set.specs.Journal.{Epochs}
 use Rattle.write_set.specs.Merge.{last_change}
@@ -25,10 +24,6 @@ pub record IsMergeOf (epochs : Epochs) (merged : Merged) : Type 0 where
   pub count : merged.epoch ≡ length epochs
   pub table : merged.rows ≡ snap_rows epochs
   pub last : (row : RowId) → last_in merged.changes row ≡ last_change epochs row
-
--- the rows of the entries rise, so none comes twice
-abbrev pub Rises : {X : Type 0} → List (RowId × X) → Type 0
-Rises entries = IsStrictlySortedBy row_cmp (keys_of entries)
 
 -- the last changes, with the epoch at each of the rows: the word of an inner function of the program, of which proofs/Merging
 -- shows that it gives the last changes of Merge

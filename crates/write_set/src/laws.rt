@@ -1,13 +1,12 @@
 //! The laws of every journal, each the contract of a function that does nothing.
 ghost use Rattle.std.specs.Prelude.{◌≡◌, ℕ, ◌+◌, ◌<◌, ◌≤◌, ◌↔◌, true, false, List, Contains};
-ghost use Rattle.std.specs.List.Sorted.{IsStrictlySortedBy};
-ghost use Rattle.std.specs.Map.{keys_of};
 ghost use Rattle.geo_base.specs.declared.row_id.RowId.{RowId};
 ghost use Rattle.geo_base.specs.declared.numbers.CandId.{CandId};
 ghost use Rattle.geo_base.specs.declared.outcome.Outcome.{Outcome};
 ghost use Rattle.geo_base.specs.declared.outcome.Outcome.TheVariants.{Beaten};
-ghost use Rattle.geo_base.specs.Order.{row_cmp};
-ghost use Rattle.write_set.specs.Sets.{RowsRise, has_row};
+ghost use Rattle.write_set.specs.Sets.{ChangeOfRow, Rises, has_row};
+ghost use Rattle.write_set.specs.Net.{IsNet, net_of};
+ghost use Rattle.write_set.specs.declared.row_change.RowChange.{RowChange};
 ghost use Rattle.write_set.specs.Journal.{Journal, Epochs, Placed, IsJournal, batches_at, candidates_of, epochs_of, last_sealed, Extends};
 ghost use Rattle.write_set.specs.Merge.{contenders, id_of, is_beaten_on, last_change, verdict_of, verdicts};
 ghost use Rattle.write_set.specs.Snapshot.{image_in, snap_at, snap_rows};
@@ -40,8 +39,14 @@ pub fn journals_are_isolated()
 
 /// The list of a snapshot's rows rises, and a look-up in it answers as the snapshot does.
 pub fn rows_are_the_snapshot()
-    ensures rising { (epochs : Epochs) → IsStrictlySortedBy row_cmp (keys_of (snap_rows epochs)) }
+    ensures rising { (epochs : Epochs) → Rises (snap_rows epochs) }
     ensures images { (epochs : Epochs) (row : RowId) → image_in (snap_rows epochs) row ≡ snap_at epochs row }
+{}
+
+/// The net of a set and of changes after it has each row once and in rising order, with what the last change
+/// of the row leaves, or with its change in the set where none of them is of the row.
+pub fn nets_have_last_changes()
+    ensures { (set : List ChangeOfRow) (changes : List RowChange) → Rises set → IsNet set changes (net_of set changes) }
 {}
 
 /// A verdict that names a winner names a fresh candidate that has the row and that no other such one beats.
@@ -55,10 +60,10 @@ pub fn winner_is_unbeaten()
 /// it on a row; changed on its least row that was changed after its start; beaten on the least row where a
 /// contender beats it, by the one that none beats.
 pub fn verdicts_are_by_the_rules()
-    ensures rules { (last : RowId → ℕ) (epoch : ℕ) (all : List Placed) (c : Placed) (outcome : Outcome) → RowsRise c.set →
+    ensures rules { (last : RowId → ℕ) (epoch : ℕ) (all : List Placed) (c : Placed) (outcome : Outcome) → Rises c.set →
         (verdict_of last epoch all c ≡ outcome) ↔ IsVerdict last epoch all c outcome }
     ensures rising { (journal : Journal) (place : ℕ) (c : Placed) → IsJournal journal →
-        Contains (candidates_of (batches_at journal place)) c → RowsRise c.set }
+        Contains (candidates_of (batches_at journal place)) c → Rises c.set }
 {}
 
 /// A name stands for one candidate of its epoch alone.

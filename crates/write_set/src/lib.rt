@@ -2,7 +2,8 @@
 //!
 //! The definitions of `specs/` say, of every journal of batches, which candidates commit and what each
 //! epoch's snapshot is: pairwise, over lists. [`Plain`] is the program that merges one epoch a step and
-//! answers just those verdicts and rows. A copy of a write set, a candidate or a batch equals it. The
+//! answers just those verdicts and rows. [`WriteSet::with`] answers the net of a transaction's changes, or
+//! the limit that it breaks, exactly. A copy of a write set, a candidate or a batch equals it. The
 //! functions of `laws` have the laws of every journal as their contracts.
 #![tactic(auto)]
 
@@ -11,8 +12,14 @@ mod candidate;
 mod change;
 mod entrant;
 mod laws;
+pub mod limits;
+mod net;
 mod plain;
+mod row_change;
+mod session_record;
 mod set;
+mod set_fault;
+mod size;
 mod table;
 #[cfg(test)]
 mod tests;
@@ -24,8 +31,11 @@ pub use candidate::{Candidate, CandidateList};
 pub use change::Change;
 pub use laws::{
     committed_share_no_row, journals_are_isolated, last_changes_are_last,
-    names_are_of_one_candidate, rows_are_the_snapshot, sealed_epochs_stay,
+    names_are_of_one_candidate, nets_have_last_changes, rows_are_the_snapshot, sealed_epochs_stay,
     verdicts_are_by_the_rules, winner_is_unbeaten,
 };
 pub use plain::Plain;
+pub use row_change::RowChange;
+pub use session_record::Record;
 pub use set::WriteSet;
+pub use set_fault::SetFault;

@@ -28,7 +28,8 @@ pub struct Plain {
 
 impl Model for Plain {
     ghost use Rattle.std.specs.Prelude.{◌≤◌};
-    ghost use Rattle.write_set.specs.Plain.{Merged, Rises};
+    ghost use Rattle.write_set.specs.Plain.{Merged};
+    ghost use Rattle.write_set.specs.Sets.{Rises};
 
     ghost Value = { Merged };
 

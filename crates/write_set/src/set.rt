@@ -1,11 +1,17 @@
-ghost use Rattle.std.specs.Prelude.{◌≡◌, [], ◌∷◌, ◌++◌, IfOk, OnOk};
+ghost use Rattle.std.specs.Prelude.{◌≡◌, ◌≤◌, ◌*◌, [], ◌∷◌, ◌++◌, length, IfOk, OnOk};
+ghost use Rattle.std.specs.List.{slice_get};
+ghost use Rattle.std.specs.Option.{option_copied, option_map};
+ghost use Rattle.geo_base.specs.declared.limits.TheConstants.{MAX_SET_ROWS};
+ghost use Rattle.write_set.specs.declared.limits.TheConstants.{MAX_CHANGE_BYTES};
+ghost use Rattle.write_set.specs.Net.{change_in};
 ghost use Rattle.write_set.specs.Sets.{IsWriteSet};
+ghost use Rattle.write_set.specs.Sizes.{set_size};
 
 use crate::change::Change;
+use crate::size::changes_size;
+use crate::table::value_of;
 use geo_base::{Duplicate, NoMemory, RowId};
 use std::alloc::Global;
-#[cfg(test)]
-use std::cmp::Ordering;
 use std::marker::Model;
 
 /// The changes of one transaction: at most 1,024 rows, each once, in rising order. Contracts see the
@@ -30,6 +36,7 @@ impl Model for WriteSet {
 
 impl WriteSet {
     /// The set that changes no row.
+    #[tactic(auto, using(crate::proofs::Rising::no_changes))]
     pub fn empty(alloc: Global) -> WriteSet
         ensures { result ≡ [] }
     {
@@ -38,7 +45,8 @@ impl WriteSet {
         }
     }
 
-    /// The set that changes this row alone.
+    /// The set that changes this row alone: for a transaction whose one change is known to be left, as a
+    /// put. Where the row may be one that the snapshot lacks and is removed, take [`WriteSet::with`].
     pub fn one(alloc: Global, row: RowId, change: Change) -> Result<WriteSet, NoMemory>
         ensures { IfOk result (λ set. set ≡ (row, change) ∷ []) }
     {
@@ -47,12 +55,54 @@ impl WriteSet {
         Ok(WriteSet { changes })
     }
 
+    /// The set of these changes, which are in rising order of rows.
+    pub fn from_changes(changes: Vec<(RowId, Change)>) -> WriteSet
+        requires { IsWriteSet changes.items }
+        ensures { result ≡ changes.items }
+    {
+        WriteSet { changes }
+    }
+
     /// The rows with their changes, in rising order of rows.
     pub fn changes(&self) -> &[(RowId, Change)]
         ensures value { result.now ≡ self.now }
         ensures lawful { IsWriteSet self.now }
     {
         self.changes.as_slice()
+    }
+
+    /// What is done to the row, if anything is. The search is by halving.
+    pub fn get(&self, row: &RowId) -> Option<&Change>
+        ensures { option_copied result ≡ change_in self.now row.now }
+    {
+        value_of(self.changes.as_slice(), row)
+    }
+
+    /// The row at a place of the rising order, counted from 0, and what is done to it; None exactly past
+    /// the last.
+    pub fn at(&self, place: u32) -> Option<(&RowId, &Change)>
+        ensures { option_map (λ p. (p.0.now, p.1.now)) result ≡ slice_get self.now place }
+    {
+        match self.changes.get(place as usize) {
+            Some(found) => Some((&found.0, &found.1)),
+            None => None,
+        }
+    }
+
+    /// How many rows are changed.
+    pub fn count(&self) -> u32
+        ensures value { result ≡ length self.now }
+        ensures few { result ≤ MAX_SET_ROWS }
+    {
+        self.changes.len() as u32
+    }
+
+    /// The bytes of the spellings of the changes, at most 33,654,784. The cost is the number of cells.
+    pub fn size(&self) -> u64
+        ensures value { result ≡ set_size self.now }
+        ensures few { result ≤ MAX_CHANGE_BYTES * MAX_SET_ROWS }
+    {
+        changes_size(self.changes.as_slice())
     }
 }
 
@@ -75,25 +125,5 @@ impl Duplicate for WriteSet {
         let mut changes = Vec::with_capacity(alloc, self.changes.len())?;
         copy_changes(&mut changes, alloc, self.changes.as_slice())?;
         Ok(WriteSet { changes })
-    }
-}
-
-#[cfg(test)]
-impl WriteSet {
-    /// The set of two changes, if the second row is greater than the first.
-    pub(crate) fn two(
-        alloc: Global,
-        first: (RowId, Change),
-        second: (RowId, Change),
-    ) -> Result<Option<WriteSet>, NoMemory> {
-        match first.0.cmp(&second.0) {
-            Ordering::Less => {
-                let mut changes = Vec::new(alloc);
-                changes.push(first)?;
-                changes.push(second)?;
-                Ok(Some(WriteSet { changes }))
-            }
-            _ => Ok(None),
-        }
     }
 }

@@ -6,7 +6,7 @@ ghost use Rattle.std.specs.Option.{option_copied};
 ghost use Rattle.std.specs.Vec.{vec_capacity};
 ghost use Rattle.geo_base.specs.Order.{row_cmp};
 ghost use Rattle.write_set.specs.Places.{StandsAt, FitsAt};
-ghost use Rattle.write_set.specs.Plain.{Rises};
+ghost use Rattle.write_set.specs.Sets.{Rises};
 
 use geo_base::RowId;
 

@@ -6,6 +6,7 @@ use crate::batch::Batch;
 use crate::candidate::{Candidate, CandidateList};
 use crate::change::Change;
 use crate::plain::Plain;
+use crate::row_change::RowChange;
 use crate::set::WriteSet;
 use geo_base::limits::{MAX_AGE, MAX_CANDIDATES};
 use geo_base::{CandId, Cell, Csn, Duplicate, Epoch, Key, Outcome, RegionNo, RowId, RowImage};
@@ -50,15 +51,21 @@ fn change_of(alloc: Global, write: Write) -> Result<Change, Fail> {
     }
 }
 
+/// A change by which the snapshot's row is put or removed.
+fn made(alloc: Global, write: Write) -> Result<RowChange, Fail> {
+    Ok(RowChange {
+        row: row_of(alloc, write.0)?,
+        before: true,
+        change: change_of(alloc, write)?,
+    })
+}
+
 fn set_of(alloc: Global, case: &Case) -> Result<WriteSet, Fail> {
     let row = row_of(alloc, case.first.0)?;
-    let change = change_of(alloc, case.first)?;
+    let one = WriteSet::one(alloc, row, change_of(alloc, case.first)?)?;
     match case.second {
-        None => Ok(WriteSet::one(alloc, row, change)?),
-        Some(write) => {
-            let other = (row_of(alloc, write.0)?, change_of(alloc, write)?);
-            Ok(WriteSet::two(alloc, (row, change), other)?.ok_or("rows that fall")?)
-        }
+        None => Ok(one),
+        Some(write) => Ok(one.with(alloc, vec![in alloc; made(alloc, write)?]?)?),
     }
 }
 

@@ -1,10 +1,10 @@
 //! What becomes of the candidates of one epoch, each compared with each other.
 ghost use Rattle.std.specs.Prelude.{◌≡◌, IfOk, map};
 ghost use Rattle.std.specs.Option.{option_copied};
-ghost use Rattle.write_set.specs.Sets.{has_row};
+ghost use Rattle.write_set.specs.Sets.{has_row, Rises};
 ghost use Rattle.write_set.specs.Merge.{wins, is_fresh, first_changed};
 ghost use Rattle.write_set.specs.Entrants.{placed, fresh_of, takes_row, loses_row, is_better, keeper_of, first_lost, lost_or_committed, outcome_of, writes_of};
-ghost use Rattle.write_set.specs.Plain.{Rises, last_in};
+ghost use Rattle.write_set.specs.Plain.{last_in};
 
 use crate::change::Change;
 use crate::entrant::Entrant;

@@ -3,7 +3,8 @@ ghost use Rattle.std.specs.Prelude.{◌≡◌, ◌+◌, ◌<◌, ◌≤◌, IfOk
 ghost use Rattle.std.specs.Map.{keys_of};
 ghost use Rattle.std.specs.Vec.{vec_capacity};
 ghost use Rattle.write_set.specs.Snapshot.{changed, overlay};
-ghost use Rattle.write_set.specs.Plain.{Rises, noted};
+ghost use Rattle.write_set.specs.Plain.{noted};
+ghost use Rattle.write_set.specs.Sets.{Rises};
 
 use crate::change::Change;
 use crate::table::{put_value, remove_value};

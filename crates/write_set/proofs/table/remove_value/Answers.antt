@@ -1,5 +1,5 @@
 use Rattle.std.proofs.Common.{subst, ◌∙◌, sym}
-use Rattle.write_set.specs.Plain.{Rises}
+use Rattle.write_set.specs.Sets.{Rises}
 use Rattle.write_set.proofs.Rising.{rises_removed}
 use Rattle.write_set.specs.Places.{StandsAt, FitsAt}
 use Rattle.write_set.proofs.Places.{removed_here, removed_absent, lookup_absent}

@@ -1,10 +1,10 @@
 use Rattle.std.proofs.Common.{◌∙◌, ap}
 use Rattle.std.specs.Option.{is_some}
-use Rattle.write_set.proofs.Judging.{rises_from_rows, has_row_found, found_behind}
+use Rattle.write_set.proofs.Judging.{has_row_found, found_behind}
 use Rattle.write_set.proofs.verdicts.has_row.Goals as goal
 
 pub value_of-requires : goal.value_of-requires
-value_of-requires c = rises_from_rows c.changes.result.now (rw c.changes.ensures.value c.changes.ensures.lawful.rising)
+value_of-requires c = rw c.changes.ensures.value c.changes.ensures.lawful.rising
 
 pub returns : goal.returns
 returns c =

@@ -2,7 +2,7 @@ use Rattle.std.proofs.Common.{◌≡◌, ◌+◌, ◌≤◌, length, vec_len}
 use Rattle.std.specs.Vec.{vec_capacity}
 use Rattle.std.specs.Vec.Iter.{into_iter_items}
 use Rattle.write_set.specs.Snapshot.{overlay}
-use Rattle.write_set.specs.Plain.{Rises}
+use Rattle.write_set.specs.Sets.{Rises}
 use Rattle.write_set.proofs.writes.make_changes.Given as goal
 
 -- the changes so far are made, and there is room for the others

@@ -1,0 +1,5 @@
+use Rattle.write_set.proofs.Rising.{one_change}
+use Rattle.write_set.proofs.set.WriteSet.one.Goals as goal
+
+pub invariant_of-result : goal.invariant_of-result
+invariant_of-result c = rw (c.in_ok-push.ensures.items, c.new-changes.ensures.items) (one_change (c.args.row, c.args.change))

@@ -1,0 +1,98 @@
+//! What is left of a transaction's changes.
+ghost use Rattle.std.specs.Prelude.{◌≡◌, IfOk, IfErr, OnOk};
+ghost use Rattle.write_set.specs.Net.{left_by, with_left, net_of, IsNet, IsWithinLimits, HasCause};
+ghost use Rattle.write_set.specs.Sets.{Rises};
+
+use crate::change::Change;
+use crate::row_change::RowChange;
+use crate::set::WriteSet;
+use crate::set_fault::SetFault;
+use geo_base::limits::{MAX_SET_BYTES, MAX_SET_ROWS};
+use geo_base::{Duplicate, NoMemory, RowId};
+use std::alloc::Global;
+use std::collections::BTreeMap;
+
+#[cfg(test)]
+mod tests;
+
+/// Changes by their rows.
+type ChangesByRow = BTreeMap<RowId, Change>;
+
+impl WriteSet {
+    /// The net of this set and of the changes after it, in their order: a row's last change stands, and a
+    /// row that the snapshot lacks and that was last removed isn't changed.
+    ///
+    /// [`SetFault::TooManyRows`] exactly where the net has more than 1,024 rows, and else
+    /// [`SetFault::TooLarge`] exactly where its spelled changes have more than 1,048,576 bytes. For n
+    /// changes and a set of m rows the cost is n + m searches by halving, and one pass over the net.
+    #[tactic(auto, using(crate::proofs::Nets::is_net))]
+    pub fn with(&self, alloc: Global, changes: Vec<RowChange>) -> Result<WriteSet, SetFault>
+        ensures net { IfOk result (λ set. set ≡ net_of self.now changes.items) }
+        ensures last { IfOk result (λ set. IsNet self.now changes.items set) }
+        ensures within { OnOk result (IsWithinLimits (net_of self.now changes.items)) }
+        ensures fault { IfErr result (λ e. HasCause e (net_of self.now changes.items)) }
+    {
+        let net = net_of(alloc, self.changes(), changes)?;
+        if net.len() > MAX_SET_ROWS as usize {
+            return Err(SetFault::TooManyRows);
+        }
+        let set = WriteSet::from_changes(net);
+        if set.size() > MAX_SET_BYTES {
+            return Err(SetFault::TooLarge);
+        }
+        Ok(set)
+    }
+}
+
+/// The net of a set's changes and of those after them.
+fn net_of(
+    alloc: Global,
+    set: &[(RowId, Change)],
+    changes: Vec<RowChange>,
+) -> Result<Vec<(RowId, Change)>, NoMemory>
+    requires { Rises set.now }
+    ensures net { IfOk result (λ net. net.items ≡ net_of set.now changes.items) }
+    ensures rising { IfOk result (λ net. Rises net.items) }
+{
+    let mut net = by_row(alloc, set)?;
+    for change in changes {
+        make_change(&mut net, change)?;
+    }
+    in_order(alloc, net)
+}
+
+/// Copies of the changes, by their rows.
+fn by_row(alloc: Global, changes: &[(RowId, Change)]) -> Result<ChangesByRow, NoMemory>
+    requires { Rises changes.now }
+    ensures { IfOk result (λ copies. copies.entries ≡ changes.now) }
+{
+    let mut copies = BTreeMap::new(alloc);
+    for (row, change) in changes {
+        copies.insert(row.copy(alloc)?, change.copy(alloc)?)?;
+    }
+    Ok(copies)
+}
+
+/// Leaves in the net what this change of its row does.
+fn make_change(net: &mut ChangesByRow, change: RowChange) -> Result<(), NoMemory>
+    ensures { OnOk result (net.new.entries ≡ with_left change.row (left_by change.before change.change) net.old.entries) }
+{
+    match change.change {
+        Change::Remove if !change.before => {
+            net.remove(&change.row);
+        }
+        made => {
+            net.insert(change.row, made)?;
+        }
+    }
+    Ok(())
+}
+
+/// The changes in rising order of their rows.
+fn in_order(alloc: Global, net: ChangesByRow) -> Result<Vec<(RowId, Change)>, NoMemory>
+    ensures changes { IfOk result (λ changes. changes.items ≡ net.entries) }
+    ensures rising { IfOk result (λ changes. Rises changes.items) }
+{
+    let changes = net.into_iter().collect(alloc)?;
+    Ok(changes)
+}

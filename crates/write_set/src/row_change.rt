@@ -1,0 +1,11 @@
+use crate::change::Change;
+use geo_base::RowId;
+
+/// A change that a transaction makes to a row.
+#[derive(Debug, Drop)]
+pub struct RowChange {
+    pub row: RowId,
+    /// Whether the snapshot on which the transaction runs has the row.
+    pub before: bool,
+    pub change: Change,
+}
