@@ -1,7 +1,8 @@
 -- A packet comes to its region.
 use Rattle.std.proofs.Common.{◌≡◌, ℕ, zero, suc, ◌+◌, ◌-◌, ◌<◌, ◌≤◌, max, Bool, true, false, cond, ◌&&◌, ◌||◌, ◌==◌, nat_le, Option, None, Some, is_some, option_map, if◌then◌else◌, List, [], ◌∷◌, ◌++◌, map, length, All, get_or, slice_get, vec_len, refl, sym, ap, ap₂, ◌∙◌, subst, subst₂, arith, ⊎_elim, length-set, eqb-true, eq-eqb, ne_eqb, le-leb, append_assoc}
 use Rattle.std.proofs.lemmas.List.{append-nil}
-use Rattle.std.proofs.lemmas.Bool.{cases_eq, and_parts, cases_lt, lt-leb}
+use Rattle.std.proofs.lemmas.Bool.{cases_eq, and_parts, cases_lt, lt-leb, cond-false}
+use Rattle.std.proofs.lemmas.Bool.Decides.{nat_tests}
 use Rattle.std.proofs.lemmas.Option.{slice_get_read, slice_get-map, slice_get_within, get_or_from_slice_get}
 use Rattle.write_set.specs.declared.batch.Batch.{Batch}
 use Rattle.write_set.specs.Journal.{epochs_of, batch_at}
@@ -16,7 +17,7 @@ use Rattle.geo_world.specs.Lines as lines
 use Rattle.geo_world.specs.Sessions.{session_at}
 use Rattle.geo_world.specs.Arrivals.{batch_in, with_batch}
 use Rattle.geo_world.specs.Regions.{Receives}
-use Rattle.geo_world.specs.Standing.{StandsFor, RegionStandsFor, HoldsArrived, IsAsSealed, Makes, session_state, packet_state}
+use Rattle.geo_world.specs.Standing.{StandsFor, RegionStandsFor, HoldsArrived, IsCleared, IsAsSealed, Makes, session_state, packet_state}
 use Rattle.geo_world.specs.Sound.{IsSoundPacket}
 use Rattle.geo_world.proofs.SoundRegions.{state-set_same, state-set_other}
 use Rattle.geo_world.proofs.SoundMoves.{arrived-sound}
@@ -50,10 +51,15 @@ arrived_holds w to batch old new sealed put held of epoch later =
     ∙ ap₂ (λ (x y : Bool). cond ((x && y) || has_arrived (region_of w to) of epoch) (batch_at w.journal of (epoch - 1)) None)
     (eqb_sym batch.region of) (eqb_sym batch.epoch epoch))
 
-pub arrived-stands : (w : World) (to : ℕ) (batch : Batch) (old new : Region) → to < length w.regions →
+-- an epoch that is published is none of a batch above it
+not_put : (published above epoch : ℕ) (own : Bool) (b x : Option Batch) → published < above → epoch ≤ published → cond (own && (above == epoch)) b x ≡ x
+not_put published above epoch true b x late early = cond-false (above == epoch) b x (ne_eqb above epoch (λ e. omega (arith, e, late, early)))
+not_put published above epoch false b x late early = refl
+
+pub arrived-stands : (w : World) (to : ℕ) (batch : Batch) (old new : Region) → to < length w.regions → (region_of w to).published < batch.epoch →
     batch_at w.journal batch.region (batch.epoch - 1) ≡ Some batch → Receives batch old new → RegionStandsFor w to old →
     RegionStandsFor (arrived_world w to batch.region batch.epoch) to new
-arrived-stands w to batch old new h sealed t r = record {
+arrived-stands w to batch old new h late sealed t r = record {
   log = t.log ∙ r.log;
   opens = t.opens ∙ r.opens;
   room = subst (λ (n : ℕ). n ≤ max 1 w.last) (sym t.opens) r.room;
@@ -62,6 +68,10 @@ arrived-stands w to batch old new h sealed t r = record {
   merges = ap (λ (m : Merged). m.regions) t.plain ∙ (r.merges ∙ sym (length-set w.regions to state));
   merged = subst₂ (λ (s : RegionState) (m : Merged). IsMergeOf (epochs_of w.journal s.published) m) (sym same) (sym t.plain) r.merged;
   holds = subst (λ (s : RegionState). HoldsArrived w.journal s new.inbox) (sym same) (arrived_holds w to batch old new sealed t.inbox r.holds);
+  cleared = subst (λ (s : RegionState). IsCleared s new.inbox) (sym same)
+      (λ of epoch early. t.inbox of epoch
+      ∙ not_put (region_of w to).published batch.epoch epoch (batch.region == of) (Some batch) (batch_in old.inbox of epoch) late early
+      ∙ r.cleared of epoch early);
   numbers = new.sessions.ok.0 ∙ (ap (λ (ss : List KeptSession). length ss) t.sessions ∙ (sym old.sessions.ok.0 ∙ r.numbers));
   sessions = λ q l. ap (λ (ss : List KeptSession). session_state (session_at ss q)) t.sessions ∙ r.sessions q l;
 }
@@ -149,14 +159,10 @@ known-is w to r batch here other sealed =
     had : Bool
     had = has_arrived (region_of w to) batch.region batch.epoch
 
--- ---- what is printed
+above : (epoch published : ℕ) (held : Bool) → (nat_le epoch published || held) ≡ false → published < epoch
+above epoch published held e = grind (arith, nat_tests)
 
-pub absent-makes : (w : World) (k : Kept) (packet : ℕ) (before after : List ℕ) → StandsFor w k → slice_get k.packets.items packet ≡ None →
-    after ≡ before ++ lines.packet_absent packet → Makes (deliver_one w packet (slice_get w.packets packet)) before after k
-absent-makes w k packet before after s none printed =
-    says-makes w k (lines.packet_absent packet) before after (deliver_one w packet (slice_get w.packets packet)) s
-    (ap (deliver_one w packet) (ap (λ (ps : List Packet). slice_get ps packet) (sym s.packets) ∙ (slice_get-map packet_state k.packets.items packet ∙ ap (option_map packet_state) none)))
-    printed
+-- ---- what is printed
 
 abbrev arrived_step : World → ℕ → KeptPacket → Stepped
 arrived_step w packet p = record { world = arrived_world w p.to p.batch.region p.batch.epoch; lines = lines.packet_new packet }
@@ -194,7 +200,7 @@ new-makes w k n packet p old new before after s at here unknown t changes packet
     (record {
       lines = printed;
       world = changed-stands w (arrived_world w p.to p.batch.region p.batch.epoch) k n p.to new s changes
-          (arrived-stands w p.to p.batch old new sound.0 (packet-sealed k packet p w s at) t here)
+          (arrived-stands w p.to p.batch old new sound.0 late (packet-sealed k packet p w s at) t here)
           (λ q other within. state-held w p.to (record (region_of w p.to) { arrived = (p.batch.region, p.batch.epoch) ∷ (region_of w p.to).arrived }) q other)
           (arrived-sound w p.to p.batch.region p.batch.epoch sound s.sound)
           refl
@@ -205,6 +211,9 @@ new-makes w k n packet p old new before after s at here unknown t changes packet
   where
     sound : IsSoundPacket w (packet_state p)
     sound = packet-sound k packet p w s at
+
+    late : (region_of w p.to).published < p.batch.epoch
+    late = subst (λ (n : ℕ). n < p.batch.epoch) here.published (above p.batch.epoch old.plain.epoch _ unknown)
 
 -- no packet is for a region that isn't there
 pub somewhere : (w : World) (k : Kept) (packet : ℕ) (p : KeptPacket) → StandsFor w k → slice_get k.packets.items packet ≡ Some p → p.to < vec_len k.regions

@@ -34,3 +34,4 @@ pub mod Faults
 pub mod OneText
 pub mod TextLaws
 pub mod ScriptTexts
+pub mod OneTable

@@ -33,9 +33,6 @@ HasEvents-append regions text events more rest last read next = record {
   cut = text_more text read.lines next.lines rest last read.cut next.cut;
 }
 
-pub HasEvents-none : (regions : ℕ) (text : List ℕ) → HasEvents regions text [] text
-HasEvents-none regions text = record { lines = []; typed = tt; cut = refl }
-
 -- the event of a text's first line
 pub HasEvents-one : (regions : ℕ) (text line rest : List ℕ) (event : Event) → text ≡ line ++ (10 ∷ rest) → IsLineOf event line → IsWithin regions event → HasEvents regions text (event ∷ []) rest
 HasEvents-one regions text line rest event is of within = record { lines = line ∷ []; typed = (of, within, tt); cut = text_one text line rest is }

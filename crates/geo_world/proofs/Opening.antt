@@ -15,6 +15,7 @@ use Rattle.geo_world.specs.World.{World, RegionState, new_region, first_world, r
 use Rattle.geo_world.specs.Sessions.{session_at}
 use Rattle.geo_world.specs.Regions.{IsNew}
 use Rattle.geo_world.specs.Standing.{StandsFor, RegionStandsFor, HoldsArrived, IsAsSealed, session_state, packet_state}
+use Rattle.geo_world.specs.Tables.{kv_tables}
 use Rattle.geo_world.proofs.SoundSteps.{first_world-sound}
 
 one_room : (first last : ℕ) → first ≡ 1 → first ≤ max 1 last
@@ -30,6 +31,7 @@ new-stands regions last number r h n = record {
   merges = n.merges ∙ sym (length-replicate regions new_region);
   merged = subst (λ (s : RegionState). IsMergeOf (epochs_of w.journal s.published) r.plain) (sym same) n.merged;
   holds = subst (λ (s : RegionState). HoldsArrived w.journal s r.inbox) (sym same) (λ of epoch later. n.inbox of epoch);
+  cleared = λ of epoch early. n.inbox of epoch;
   numbers = r.sessions.ok.0 ∙ (ap (λ (ss : List KeptSession). length ss) n.sessions ∙ length-replicate SESSIONS_PER_REGION kept.Idle);
   sessions = λ q few. ap session_state (ap (λ (ss : List KeptSession). session_at ss q) n.sessions
       ∙ (unwrap_or-slice_get (replicate SESSIONS_PER_REGION kept.Idle) q kept.Idle ∙ get_or-replicate SESSIONS_PER_REGION q kept.Idle kept.Idle few));
@@ -44,10 +46,11 @@ new-stands regions last number r h n = record {
     log : log_of w.journal number ≡ []
     log = get_or-replicate regions number [] [] h
 
-pub opened-stands : (regions last : ℕ) (k : Kept) → 1 ≤ regions → regions ≤ 8 → last < 2 ^ 32 → k.last ≡ last → vec_len k.regions ≡ regions →
+pub opened-stands : (regions last : ℕ) (k : Kept) → 1 ≤ regions → regions ≤ 8 → last < 2 ^ 32 → k.schema ≡ kv_tables → k.last ≡ last → vec_len k.regions ≡ regions →
     All (IsNew regions) k.regions.items → k.packets.items ≡ [] → StandsFor (first_world regions last) k
-opened-stands regions last k some few short is count new none = record {
+opened-stands regions last k some few short tables is count new none = record {
   sound = first_world-sound regions last some few;
+  schema = tables;
   last = is;
   short = short;
   count = count ∙ sym (length-replicate regions new_region);

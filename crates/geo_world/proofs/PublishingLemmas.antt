@@ -1,6 +1,6 @@
 -- A region of the program that publishes an epoch stands for the region that published it.
 use Rattle.std.proofs.Common.{◌≡◌, ℕ, zero, suc, ◌+◌, ◌-◌, ◌*◌, ◌^◌, ◌<◌, ◌≤◌, max, Bool, true, false, not, cond, ◌&&◌, ◌||◌, ◌==◌, nat_le, nat_lt, Option, None, Some, is_some, List, [], ◌∷◌, ◌++◌, map, filter_map, length, take, All, get_or, slice_get, count_by, vec_len, if◌then◌else◌, refl, sym, ap, ap₂, ◌∙◌, subst, subst₂, arith, ⊎_elim, length-set, length-append, add-one, eq-eqb, ne_eqb, le_refl}
-use Rattle.std.proofs.lemmas.Bool.{cases_eq, cond-true, cond-false, ltb-false, lt-ltb, le-ltb}
+use Rattle.std.proofs.lemmas.Bool.{cases_eq, cases_lt, cond-true, cond-false, ltb-false, lt-ltb, le-ltb}
 use Rattle.std.specs.List.{cons_option}
 use Rattle.std.proofs.lemmas.Bool.Decides.{nat_tests}
 use Rattle.std.proofs.lemmas.List.{length-map, take_more}
@@ -25,9 +25,10 @@ use Rattle.geo_world.specs.Step.{Stepped, says, publish, have, numbers_below}
 use Rattle.geo_world.specs.Lines as lines
 use Rattle.geo_world.specs.Sessions.{session_at}
 use Rattle.geo_world.specs.Arrivals.{batch_in}
-use Rattle.geo_world.specs.Regions.{Publishes, IsReady, has_next, next_batch_of, next_batches}
-use Rattle.geo_world.specs.Standing.{StandsFor, IsSomeWorld, RegionStandsFor, HoldsArrived, IsAsSealed, Makes, session_state, packet_state}
+use Rattle.geo_world.specs.Regions.{Publishes, IsReady, is_gathered, has_next, next_batch_of, next_batches}
+use Rattle.geo_world.specs.Standing.{StandsFor, IsSomeWorld, RegionStandsFor, HoldsArrived, IsCleared, IsAsSealed, Makes, session_state, packet_state}
 use Rattle.geo_world.specs.Sound.{IsSound, IsSoundRegion, IsSealed}
+use Rattle.geo_world.proofs.LastSealed.{last_sealed-le-log}
 use Rattle.geo_world.proofs.Counting.{count-agree, count-all}
 use Rattle.geo_world.proofs.SoundRegions.{state-set_same}
 use Rattle.geo_world.proofs.SoundMoves.{published-sound, whole-sealed}
@@ -42,13 +43,52 @@ use Rattle.geo_world.proofs.Delivering.{state-held}
 later_epoch : (p e : ℕ) → p + 1 < e → p < e
 later_epoch p e h = omega arith
 
-other_epoch : (p e : ℕ) → p + 1 < e → e ≡ p + 1 → ⊥
+other_epoch : (p e : ℕ) → p + 1 < e → p + 1 ≡ e → ⊥
 other_epoch p e h q = omega arith
 
-pub published-stands : (w : World) (number : ℕ) (old new : Region) → number < length w.regions →
-    Publishes (epochs_of w.journal ((region_of w number).published + 1)) ((region_of w number).published + 1) old new →
+next_one : (p e : ℕ) → p < e → e ≤ p + 1 → p + 1 ≡ e
+next_one p e a b = omega arith
+
+none_either : (b : Bool) (x : Option Batch) → x ≡ None → cond b None x ≡ None
+none_either true x e = refl
+none_either false x e = e
+
+-- batches of other epochs stay
+stays : (regions number gathered of epoch : ℕ) (x : Option Batch) → (gathered ≡ epoch → ⊥) → cond (is_gathered regions number gathered of epoch) None x ≡ x
+stays regions number gathered of epoch x other =
+    ap (λ (b : Bool). cond (b && (nat_lt of regions && not (of == number))) None x) (ne_eqb gathered epoch other)
+
+is_gathered_is : (regions number gathered of epoch : ℕ) → gathered ≡ epoch → of < regions → (of ≡ number → ⊥) → is_gathered regions number gathered of epoch ≡ true
+is_gathered_is regions number gathered of epoch same within other = grind (arith, nat_tests)
+
+-- no batch of a published epoch is left
+cleared_out : (w : World) (number of epoch : ℕ) (old : Region) → IsSound w → number < length w.regions → RegionStandsFor w number old →
+    epoch ≤ (region_of w number).published + 1 →
+    cond (is_gathered (length w.regions) number ((region_of w number).published + 1) of epoch) None (batch_in old.inbox of epoch) ≡ None
+cleared_out w number of epoch old s h r early =
+    ⊎_elim
+    (λ (late : p < epoch). by (has_arrived (region_of w number) of epoch) refl late)
+    (λ (le : epoch ≤ p). none_either gathered (batch_in old.inbox of epoch) (r.cleared of epoch le))
+    (cases_lt p epoch)
+  where
+    p : ℕ
+    p = (region_of w number).published
+
+    gathered : Bool
+    gathered = is_gathered (length w.regions) number (p + 1) of epoch
+
+    by : (had : Bool) → has_arrived (region_of w number) of epoch ≡ had → p < epoch → cond gathered None (batch_in old.inbox of epoch) ≡ None
+    by true is late =
+        let sealed = (s.regions number h).arrived of epoch is in
+        cond-true gathered None (batch_in old.inbox of epoch) (is_gathered_is (length w.regions) number (p + 1) of epoch (next_one p epoch late early) sealed.known sealed.other)
+    by false is late =
+        none_either gathered (batch_in old.inbox of epoch)
+        (r.holds of epoch late ∙ cond-false (has_arrived (region_of w number) of epoch) (batch_at w.journal of (epoch - 1)) None is)
+
+pub published-stands : (w : World) (number : ℕ) (old new : Region) → IsSound w → number < length w.regions →
+    Publishes (length w.regions) number (epochs_of w.journal ((region_of w number).published + 1)) ((region_of w number).published + 1) old new →
     RegionStandsFor w number old → RegionStandsFor (published_world w number) number new
-published-stands w number old new h t r = record {
+published-stands w number old new s h t r = record {
   log = t.log ∙ r.log;
   opens = t.opens ∙ r.opens;
   room = subst (λ (n : ℕ). n ≤ max 1 w.last) (sym t.opens) r.room;
@@ -57,7 +97,11 @@ published-stands w number old new h t r = record {
   merges = t.merges ∙ (r.merges ∙ sym (length-set w.regions number state));
   merged = subst (λ (s : RegionState). IsMergeOf (epochs_of w.journal s.published) new.plain) (sym same) t.merged;
   holds = subst (λ (s : RegionState). HoldsArrived w.journal s new.inbox) (sym same)
-      (λ of epoch later. t.inbox of epoch (other_epoch p epoch later) ∙ r.holds of epoch (later_epoch p epoch later));
+      (λ of epoch later. t.inbox of epoch
+      ∙ stays (length w.regions) number (p + 1) of epoch (batch_in old.inbox of epoch) (other_epoch p epoch later)
+      ∙ r.holds of epoch (later_epoch p epoch later));
+  cleared = subst (λ (s : RegionState). IsCleared s new.inbox) (sym same)
+      (λ of epoch early. t.inbox of epoch ∙ cleared_out w number of epoch old s h r early);
   numbers = new.sessions.ok.0 ∙ (ap (λ (ss : List KeptSession). length ss) t.sessions ∙ (sym old.sessions.ok.0 ∙ r.numbers));
   sessions = λ q l. ap (λ (ss : List KeptSession). session_state (session_at ss q)) t.sessions ∙ r.sessions q l;
 }
@@ -184,6 +228,9 @@ gathered-are w number epoch regions p r s h here is at all whole =
     (subst (λ (n : ℕ). q < n) s.same l)))
     ∙ ap (filter_map (λ log. slice_get log p)) (take-length w.journal))
 
+no_batch : Batch
+no_batch = record { region = 0; epoch = 0; items = [] }
+
 last_place : (p n : ℕ) → p + 1 ≤ n → p < n
 last_place p n h = omega arith
 
@@ -194,6 +241,7 @@ is-ready w number epoch regions r s short h here is count whole = record {
   next = is ∙ ap (λ (n : ℕ). n + 1) (sym here.published);
   room = fits epoch p (sealed_by w number) r.open w.last is (published-le-sealed w number s h) here.opens here.room short;
   all = ap (λ (bs : List Batch). length bs) same ∙ (batches_length w.journal p below ∙ (s.same ∙ sym here.merges));
+  each = λ of l. there of (subst (λ (n : ℕ). of < n) count l);
   lawful = subst₂ (λ (e : ℕ) (bs : List Batch). AreBatches 0 e bs) (sym is) (sym same) (batches_lawful w.journal p s.lawful below);
 }
   where
@@ -206,13 +254,17 @@ is-ready w number epoch regions r s short h here is count whole = record {
     same : next_batches r regions number epoch ≡ batches_at w.journal p
     same = gathered-are w number epoch regions p r s h here is refl count whole
 
+    -- the batch of each region is there, as it was sealed
+    there : (of : ℕ) → of < length w.regions → is_some (next_batch_of r number epoch of) ≡ true
+    there of l =
+        ap is_some (gathered_is w number epoch p of r here is refl
+        (count-all (λ q. holds w number q epoch) (length w.regions) (ltb-false (have w number epoch) (length w.regions) whole) of l)
+        ∙ slice_get-get_or (log_of w.journal of) p no_batch (omega (arith, below, last_sealed-le-log w.journal of (subst (λ (n : ℕ). of < n) (sym s.same) l))))
+
     fits : (e q n o l : ℕ) → e ≡ q + 1 → q ≤ n → o ≡ n + 1 → o ≤ max 1 l → l < 2 ^ 32 → e < 2 ^ 32
     fits e q n o l a b c d f = omega arith
 
 -- ---- what is printed
-
-no_batch : Batch
-no_batch = record { region = 0; epoch = 0; items = [] }
 
 one_more_fits : (m p n o l : ℕ) → m ≡ p → p ≤ n → o ≡ n + 1 → o ≤ max 1 l → l < 2 ^ 32 → m + 1 < 2 ^ 32
 one_more_fits m p n o l a b c d f = omega arith
@@ -317,7 +369,7 @@ all-ready w k number epoch found regions r s h here is count all enough = (whole
         (count ∙ have-is w number epoch regions r no_batch s.sound within here next (all ∙ s.count)) (all ∙ s.count))
 
 -- so few verdicts are told that 32 bits count them
-pub verdicts-fit : (test : Outcome → Bool) (w : World) (k : Kept) (number epoch regions : ℕ) (r : Region) (outcomes : List Outcome) → StandsFor w k →
+verdicts-fit : (test : Outcome → Bool) (w : World) (k : Kept) (number epoch regions : ℕ) (r : Region) (outcomes : List Outcome) → StandsFor w k →
     RegionStandsFor w number r → IsReady regions number epoch r →
     outcomes ≡ verdicts (candidates_of (next_batches r regions number epoch) ∷ published_epochs w number) → count_by test outcomes < 2 ^ 32
 verdicts-fit test w k number epoch regions r outcomes s here ready told =
@@ -347,7 +399,7 @@ pub published-makes : (w : World) (k n : Kept) (number epoch found regions commi
     epoch ≡ old.plain.epoch + 1 →
     found ≡ count_by (has_next old number epoch) (numbers_below regions) → regions ≡ vec_len k.regions → regions ≤ found →
     ((epochs : Epochs) → IsMergeOf epochs old.plain → outcomes ≡ verdicts (candidates_of (next_batches old regions number epoch) ∷ epochs)) →
-    ((epochs : Epochs) → IsMergeOf epochs old.plain → Publishes (candidates_of (next_batches old regions number epoch) ∷ epochs) epoch old new) →
+    ((epochs : Epochs) → IsMergeOf epochs old.plain → Publishes regions number (candidates_of (next_batches old regions number epoch) ∷ epochs) epoch old new) →
     ChangesOne number new k n → n.packets.items ≡ k.packets.items →
     commits ≡ count_by is_committed outcomes → aborts ≡ count_by (λ o. not (is_committed o)) outcomes →
     after ≡ before ++ lines.epoch_published number epoch commits aborts → Makes (publish w number) before after n
@@ -361,8 +413,9 @@ published-makes w k n number epoch found regions commits aborts outcomes old new
           ∙ ap (λ (e : ℕ). before ++ lines.epoch_published number e (count_by is_committed (published_outcomes w number))
           (count_by (λ o. not (is_committed o)) (published_outcomes w number))) next);
       world = changed-stands w (published_world w number) k n number new s changes
-          (published-stands w number old new within
-          (subst₂ (λ (es : Epochs) (e : ℕ). Publishes es e old new) epochs_are next (published (published_epochs w number) here.merged)) here)
+          (published-stands w number old new s.sound within
+          (subst (λ (n : ℕ). Publishes n number (epochs_of w.journal ((region_of w number).published + 1)) ((region_of w number).published + 1) old new) (all ∙ s.count)
+          (subst₂ (λ (es : Epochs) (e : ℕ). Publishes regions number es e old new) epochs_are next (published (published_epochs w number) here.merged))) here)
           (λ q other below. state-held w number state q other)
           (published-sound w number within (subst (λ (e : ℕ). nat_lt (have w number e) (length w.regions) ≡ false) next whole) s.sound)
           refl

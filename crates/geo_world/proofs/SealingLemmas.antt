@@ -1,6 +1,6 @@
 -- A region of the program that seals its batch stands for the region that sealed it.
-use Rattle.std.proofs.Common.{◌≡◌, ℕ, zero, ◌+◌, ◌-◌, ◌<◌, ◌≤◌, max, ◌^◌, Result, Ok, Err, OnOk, true, false, nat_le, None, Some, List, [], ◌∷◌, ◌++◌, map, length, All, set, get_or, slice_get, vec_len, refl, sym, ap, ap₂, ◌∙◌, subst, subst₂, arith, length-set, append_assoc, le-leb, get_or-set_same}
-use Rattle.std.proofs.lemmas.Bool.{cond-true, cond-false, lt-leb}
+use Rattle.std.proofs.Common.{◌≡◌, ℕ, zero, ◌+◌, ◌-◌, ◌<◌, ◌≤◌, max, ◌^◌, Result, Ok, Err, OnOk, true, false, nat_le, None, Some, List, [], ◌∷◌, ◌++◌, map, length, All, set, get_or, slice_get, vec_len, refl, sym, ap, ap₂, ◌∙◌, subst, subst₂, arith, length-set, append_assoc, get_or-set_same}
+use Rattle.std.proofs.lemmas.Bool.{cond-false, lt-leb}
 use Rattle.std.proofs.lemmas.Bool.Decides.{nat_tests}
 use Rattle.std.proofs.lemmas.List.{length_push, map-append, length-map}
 use Rattle.std.proofs.lemmas.Simd.{map-map}
@@ -23,12 +23,11 @@ use Rattle.geo_world.specs.Lines as lines
 use Rattle.geo_world.specs.Sessions.{session_at}
 use Rattle.geo_world.specs.Sending.{packet_with}
 use Rattle.geo_world.specs.Regions.{Seals}
-use Rattle.geo_world.specs.Standing.{StandsFor, RegionStandsFor, HoldsArrived, IsAsSealed, Makes, session_state, packet_state}
+use Rattle.geo_world.specs.Standing.{StandsFor, RegionStandsFor, HoldsArrived, IsCleared, IsAsSealed, Makes, session_state, packet_state}
 use Rattle.geo_world.specs.Sound.{IsSound, IsSoundRegion, IsSealed}
 use Rattle.geo_world.proofs.SoundRegions.{state-set_same, state-set_other}
 use Rattle.geo_world.proofs.SoundSeal.{sealed_world-sound, waiting-few, log-pushed_same, log-pushed_other, log-pushed_grows}
 use Rattle.geo_world.proofs.Standings.{IsHeld, ChangesOne, changed-stands, same_then}
-use Rattle.geo_world.proofs.Asking.{says-makes}
 
 -- ---- the journal with one batch more
 
@@ -83,6 +82,7 @@ sealed-stands w number old new s h last t r = record {
       (sym t.plain) r.merged;
   holds = subst₂ (λ (st : RegionState) (i : Inbox). HoldsArrived v.journal st i) (sym same) (sym t.inbox)
       (holds_later w.journal v.journal state old.inbox (λ of epoch a. arrived_stays w number number of epoch (s.regions number h) a) r.holds);
+  cleared = subst₂ (λ (st : RegionState) (i : Inbox). IsCleared st i) (sym same) (sym t.inbox) r.cleared;
   numbers = new.sessions.ok.0 ∙ (ap (λ (ss : List KeptSession). length ss) t.sessions ∙ (sym old.sessions.ok.0 ∙ r.numbers));
   sessions = λ q l. ap (λ (ss : List KeptSession). session_state (session_at ss q)) t.sessions ∙ r.sessions q l;
 }
@@ -158,14 +158,6 @@ sent_carried w number ps b tos h is all =
 
 -- ---- what is printed
 
-pub last-makes : (w : World) (k : Kept) (number : ℕ) (r : Region) (before after : List ℕ) → StandsFor w k → RegionStandsFor w number r →
-    k.last ≤ r.open → after ≡ before ++ lines.seal_last number → Makes (seal w number) before after k
-last-makes w k number r before after s here late printed =
-    says-makes w k (lines.seal_last number) before after (seal w number) s
-    (cond-true (nat_le w.last (open_epoch w number)) (says w (lines.seal_last number)) _
-    (le-leb w.last (open_epoch w number) (subst₂ (λ (a b : ℕ). a ≤ b) s.last here.opens late)))
-    printed
-
 ahead_same : (p s o : ℕ) → o ≡ s + 1 → nat_le (MAX_AHEAD + p + 1) o ≡ nat_le MAX_AHEAD (s - p)
 ahead_same p s o e = grind (arith, nat_tests)
 
@@ -178,16 +170,6 @@ ahead_is w number r here =
 early_is : (w : World) (k : Kept) (number : ℕ) (r : Region) → StandsFor w k → RegionStandsFor w number r → r.open < k.last →
     nat_le w.last (open_epoch w number) ≡ false
 early_is w k number r s here early = lt-leb w.last (open_epoch w number) (subst₂ (λ (a b : ℕ). a < b) here.opens s.last early)
-
-pub ahead-makes : (w : World) (k : Kept) (number : ℕ) (r : Region) (before after : List ℕ) → StandsFor w k → RegionStandsFor w number r →
-    r.open < k.last → nat_le (MAX_AHEAD + r.plain.epoch + 1) r.open ≡ true →
-    after ≡ before ++ lines.seal_ahead number → Makes (seal w number) before after k
-ahead-makes w k number r before after s here early ahead printed =
-    says-makes w k (lines.seal_ahead number) before after (seal w number) s
-    (cond-false (nat_le w.last (open_epoch w number)) (says w (lines.seal_last number)) _ (early_is w k number r s here early)
-    ∙ cond-true (nat_le MAX_AHEAD (sealed_by w number - (region_of w number).published)) (says w (lines.seal_ahead number)) _
-    (sym (ahead_is w number r here) ∙ ahead))
-    printed
 
 abbrev sealed_step : World → ℕ → Stepped
 sealed_step w number = record {

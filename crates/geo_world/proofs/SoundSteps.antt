@@ -7,6 +7,7 @@ use Rattle.std.proofs.lemmas.Option.{none-some, slice_get_within, get_or_from_sl
 use Rattle.geo_base.specs.declared.limits.TheConstants.{MAX_REGIONS, MAX_AGE, MAX_AHEAD}
 use Rattle.write_set.specs.declared.batch.Batch.{Batch}
 use Rattle.write_set.specs.Journal.{log_of, last_sealed}
+use Rattle.write_set.proofs.Rising.{one_change}
 use Rattle.geo_world.specs.declared.event.Event.{Event}
 use Rattle.geo_world.specs.Script.{IsWithin}
 use Rattle.geo_world.specs.World.{World, RegionState, Packet, BatchPacket, new_region, first_world, region_of, sealed_by, open_epoch, has_arrived}
@@ -92,7 +93,7 @@ put-open w region key value s h = record {
   earlier = earlier_put (sealed_by w region) (region_of w region).published (sealed_by w region) (published-le-sealed w region s h) (omega arith);
   young = young_put (sealed_by w region) (region_of w region).published (s.regions region h).ahead;
   one = refl;
-  lawful = record { rising = tt; few = omega arith };
+  lawful = one_change _;
   small = omega arith;
 }
 

@@ -9,7 +9,7 @@ use Rattle.write_set.specs.Plain.{IsMergeOf}
 use Rattle.geo_world.specs.declared.world.World.{World as Kept}
 use Rattle.geo_world.specs.declared.region.Region.{Region}
 use Rattle.geo_world.specs.World.{World, RegionState, region_of, published_epochs, has_arrived}
-use Rattle.geo_world.specs.Standing.{StandsFor, IsSomeWorld, RegionStandsFor, HoldsArrived, IsAsSealed, packet_state}
+use Rattle.geo_world.specs.Standing.{StandsFor, IsSomeWorld, RegionStandsFor, HoldsArrived, IsCleared, IsAsSealed, packet_state}
 use Rattle.geo_world.specs.Sound.{IsSound}
 use Rattle.geo_world.proofs.SoundRegions.{IsKept}
 
@@ -44,7 +44,7 @@ held_arrived w v number region h r of epoch later =
     ∙ ap (λ (s : RegionState). cond (has_arrived s of epoch) (batch_at v.journal of (epoch - 1)) None) (sym h.kept.state))
 
 -- a region stands for itself in the later world too
-pub held-stands : (w v : World) (number : ℕ) (region : Region) → IsHeld w v number → RegionStandsFor w number region → RegionStandsFor v number region
+held-stands : (w v : World) (number : ℕ) (region : Region) → IsHeld w v number → RegionStandsFor w number region → RegionStandsFor v number region
 held-stands w v number region h r = record {
   log = r.log ∙ sym h.kept.log;
   opens = r.opens ∙ ap (λ (log : List Batch). length log + 1) (sym h.kept.log);
@@ -54,12 +54,14 @@ held-stands w v number region h r = record {
   merges = r.merges ∙ sym h.kept.count;
   merged = subst (λ (es : Epochs). IsMergeOf es region.plain) (sym h.epochs) r.merged;
   holds = held_arrived w v number region h r;
+  cleared = subst (λ (s : RegionState). IsCleared s region.inbox) (sym h.kept.state) r.cleared;
   numbers = r.numbers;
   sessions = λ session few. r.sessions session few ∙ sym (h.kept.sessions session);
 }
 
 -- the program's later world is the earlier one with one region changed
 pub record ChangesOne (number : ℕ) (region : Region) (old new : Kept) : Type 0 where
+  pub schema : new.schema ≡ old.schema
   pub last : new.last ≡ old.last
   pub regions : new.regions.items ≡ set old.regions.items number region
   pub within : number < length old.regions.items
@@ -90,6 +92,7 @@ pub changed-stands : (w v : World) (k n : Kept) (number : ℕ) (region : Region)
     map packet_state n.packets.items ≡ v.packets → All (IsAsSealed v.journal) n.packets.items → StandsFor v n
 changed-stands w v k n number region s c here others sound last count packets carried = record {
   sound = sound;
+  schema = c.schema ∙ s.schema;
   last = c.last ∙ (s.last ∙ sym last);
   short = subst (λ (n : ℕ). n < 2 ^ 32) (sym last) s.short;
   count = n.regions.ok.0 ∙ (same_count w v k n number region s c ∙ sym count);

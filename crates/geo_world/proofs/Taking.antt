@@ -15,7 +15,7 @@ use Rattle.geo_world.specs.World.{World, RegionState, Idle, Pending, region_of, 
 use Rattle.geo_world.specs.Step.{submitted, put_candidate, next_ticket}
 use Rattle.geo_world.specs.Sessions.{session_at}
 use Rattle.geo_world.specs.Regions.{Takes}
-use Rattle.geo_world.specs.Standing.{StandsFor, RegionStandsFor, HoldsArrived, session_state, packet_state, IsAsSealed}
+use Rattle.geo_world.specs.Standing.{StandsFor, RegionStandsFor, HoldsArrived, IsCleared, session_state, packet_state, IsAsSealed}
 use Rattle.geo_world.proofs.SoundRegions.{state-set_same, state-set_other}
 use Rattle.geo_world.proofs.SoundSubmit.{session_of-newest, session_of-older, submitted-sound}
 use Rattle.geo_world.proofs.SoundSteps.{put-open}
@@ -58,6 +58,7 @@ taken-stands w number session c ticket old new h few t r = record {
   merges = ap (λ (m : Merged). m.regions) t.plain ∙ (r.merges ∙ sym (length-set w.regions number state));
   merged = subst₂ (λ (s : RegionState) (m : Merged). IsMergeOf (epochs_of w.journal s.published) m) (sym same) (sym t.plain) r.merged;
   holds = subst₂ (λ (s : RegionState) (i : Inbox). HoldsArrived w.journal s i) (sym same) (sym t.inbox) r.holds;
+  cleared = subst₂ (λ (s : RegionState) (i : Inbox). IsCleared s i) (sym same) (sym t.inbox) r.cleared;
   numbers = new.sessions.ok.0 ∙ (ap (λ (ss : List KeptSession). length ss) t.sessions
       ∙ (length-set old.sessions.items session (kept.Pending ticket) ∙ (sym old.sessions.ok.0 ∙ r.numbers)));
   sessions = λ q l. ap (λ (ss : List KeptSession). session_state (session_at ss q)) t.sessions

@@ -13,3 +13,4 @@ pub mod Standing
 pub mod Play
 pub mod Plays
 pub mod Answers
+pub mod Tables

@@ -1,5 +1,5 @@
 -- What each event does to a region of the program.
-use Rattle.std.specs.Prelude.{◌≡◌, ◌≢◌, ℕ, ◌+◌, ◌-◌, ◌^◌, ◌<◌, ◌==◌, nat_lt, Bool, Option, None, is_some, if◌then◌else◌, List, [], ◌∷◌, ◌++◌, length, replicate, slice_set}
+use Rattle.std.specs.Prelude.{◌≡◌, ℕ, ◌+◌, ◌-◌, ◌^◌, ◌<◌, ◌==◌, ◌&&◌, not, nat_lt, Bool, Option, None, IsSome, is_some, if◌then◌else◌, List, [], ◌∷◌, ◌++◌, length, replicate, slice_set}
 use Rattle.std.specs.List.{slice_get, filter_map}
 use Rattle.geo_base.specs.declared.limits.TheConstants.{SESSIONS_PER_REGION}
 use Rattle.geo_base.specs.declared.numbers.CandId.{CandId}
@@ -9,7 +9,7 @@ use Rattle.write_set.specs.Journal.{Epochs, AreBatches}
 use Rattle.write_set.specs.Plain.{IsMergeOf}
 use Rattle.geo_world.specs.declared.region.Region.{Region}
 use Rattle.geo_world.specs.declared.session.Session.TheVariants.{Idle, Pending}
-use Rattle.geo_world.specs.Arrivals.{batch_in, with_batch}
+use Rattle.geo_world.specs.Arrivals.{batch_in, with_batch, without_batch}
 use Rattle.geo_world.specs.Step.{numbers_below}
 
 -- a region of so many, before any event
@@ -51,21 +51,25 @@ pub record Receives (batch : Batch) (old new : Region) : Type 0 where
   pub plain : new.plain ≡ old.plain
   pub sessions : new.sessions.items ≡ old.sessions.items
 
--- batches of the epoch may leave the inbox
-pub record Gathers (gathered : ℕ) (old new : Region) : Type 0 where
+-- the batch of that region and epoch is one that the region of this number gathers from its inbox: it is of the epoch, and of another one of so many regions
+abbrev pub is_gathered : ℕ → ℕ → ℕ → ℕ → ℕ → Bool
+is_gathered regions number gathered of epoch = (gathered == epoch) && (nat_lt of regions && not (of == number))
+
+-- the epoch's batches of the other regions, of so many, have left the inbox
+pub record Gathers (regions number gathered : ℕ) (old new : Region) : Type 0 where
   pub opens : new.open ≡ old.open
   pub log : new.log.items ≡ old.log.items
   pub waiting : new.waiting.items ≡ old.waiting.items
-  pub inbox : (of epoch : ℕ) → epoch ≢ gathered → batch_in new.inbox of epoch ≡ batch_in old.inbox of epoch
+  pub inbox : (of epoch : ℕ) → batch_in new.inbox of epoch ≡ (if is_gathered regions number gathered of epoch then None else batch_in old.inbox of epoch)
   pub plain : new.plain ≡ old.plain
   pub sessions : new.sessions.items ≡ old.sessions.items
 
--- the batch of that region and epoch may leave the inbox
-pub record TakesOut (from gathered : ℕ) (old new : Region) : Type 0 where
+-- that region's batch of the epoch has left the inbox, unless it is the region's own
+pub record TakesOut (number from gathered : ℕ) (old new : Region) : Type 0 where
   pub opens : new.open ≡ old.open
   pub log : new.log.items ≡ old.log.items
   pub waiting : new.waiting.items ≡ old.waiting.items
-  pub inbox : (of epoch : ℕ) → ((of ≡ from) × (epoch ≡ gathered) → ⊥) → batch_in new.inbox of epoch ≡ batch_in old.inbox of epoch
+  pub inbox : (of epoch : ℕ) → batch_in new.inbox of epoch ≡ (if from == number then batch_in old.inbox of epoch else without_batch from gathered (batch_in old.inbox) of epoch)
   pub plain : new.plain ≡ old.plain
   pub sessions : new.sessions.items ≡ old.sessions.items
 
@@ -88,14 +92,15 @@ pub record IsReady (regions number epoch : ℕ) (region : Region) : Type 0 where
   pub next : epoch ≡ region.plain.epoch + 1
   pub room : epoch < 2 ^ 32
   pub all : length (next_batches region regions number epoch) ≡ region.plain.regions
+  pub each : (of : ℕ) → of < regions → IsSome (next_batch_of region number epoch of)
   pub lawful : AreBatches 0 epoch (next_batches region regions number epoch)
 
--- the region publishes the epoch, after which it has published these
-pub record Publishes (epochs : Epochs) (published : ℕ) (old new : Region) : Type 0 where
+-- the region of this number, of so many, publishes the epoch, after which it has published these; the epoch's batches have left the inbox
+pub record Publishes (regions number : ℕ) (epochs : Epochs) (published : ℕ) (old new : Region) : Type 0 where
   pub opens : new.open ≡ old.open
   pub log : new.log.items ≡ old.log.items
   pub waiting : new.waiting.items ≡ old.waiting.items
-  pub inbox : (of epoch : ℕ) → epoch ≢ published → batch_in new.inbox of epoch ≡ batch_in old.inbox of epoch
+  pub inbox : (of epoch : ℕ) → batch_in new.inbox of epoch ≡ (if is_gathered regions number published of epoch then None else batch_in old.inbox of epoch)
   pub merges : new.plain.regions ≡ old.plain.regions
   pub merged : IsMergeOf epochs new.plain
   pub sessions : new.sessions.items ≡ old.sessions.items

@@ -15,6 +15,7 @@ use Rattle.geo_world.specs.Arrivals.{batch_in}
 use Rattle.geo_world.specs.Sessions.{session_at}
 use Rattle.geo_world.specs.Sound.{IsSound}
 use Rattle.geo_world.specs.Step.{Stepped}
+use Rattle.geo_world.specs.Tables.{kv_tables}
 
 -- how many regions the program keeps
 abbrev pub region_count : Kept → ℕ
@@ -33,6 +34,10 @@ abbrev pub HoldsArrived : Journal → RegionState → Inbox → Type 0
 HoldsArrived journal state inbox = (of epoch : ℕ) → state.published < epoch →
     batch_in inbox of epoch ≡ (if has_arrived state of epoch then batch_at journal of (epoch - 1) else None)
 
+-- of the epochs that are published the inbox holds no batch
+abbrev pub IsCleared : RegionState → Inbox → Type 0
+IsCleared state inbox = (of epoch : ℕ) → epoch ≤ state.published → batch_in inbox of epoch ≡ None
+
 -- a region of the program stands for the region of this number
 pub record RegionStandsFor (w : World) (number : ℕ) (region : Region) : Type 0 where
   pub log : region.log.items ≡ log_of w.journal number
@@ -43,6 +48,7 @@ pub record RegionStandsFor (w : World) (number : ℕ) (region : Region) : Type 0
   pub merges : region.plain.regions ≡ length w.regions
   pub merged : IsMergeOf (published_epochs w number) region.plain
   pub holds : HoldsArrived w.journal (region_of w number) region.inbox
+  pub cleared : IsCleared (region_of w number) region.inbox
   pub numbers : vec_len region.sessions ≡ SESSIONS_PER_REGION
   pub sessions : (session : ℕ) → session < SESSIONS_PER_REGION → session_state (session_at region.sessions.items session) ≡ session_of w number session
 
@@ -50,9 +56,10 @@ pub record RegionStandsFor (w : World) (number : ℕ) (region : Region) : Type 0
 abbrev pub IsAsSealed : Journal → KeptPacket → Type 0
 IsAsSealed journal p = batch_at journal p.batch.region (p.batch.epoch - 1) ≡ Some p.batch
 
--- the program's world stands for w, which is sound
+-- the program's world stands for w, which is sound, and has the table of every play
 pub record StandsFor (w : World) (k : Kept) : Type 0 where
   pub sound : IsSound w
+  pub schema : k.schema ≡ kv_tables
   pub last : k.last ≡ w.last
   pub short : w.last < 2 ^ 32
   pub count : vec_len k.regions ≡ length w.regions

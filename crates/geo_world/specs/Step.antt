@@ -16,6 +16,7 @@ use Rattle.geo_world.specs.declared.event.Statement.{Statement}
 use Rattle.geo_world.specs.declared.event.Statement.TheVariants.{Insert, Select}
 use Rattle.geo_world.specs.declared.event.Event.{Event}
 use Rattle.geo_world.specs.declared.event.Event.TheVariants.{Sql, Seal, Deliver, Publish, Show}
+use Rattle.geo_world.specs.Tables.{kv_cells}
 use Rattle.geo_world.specs.World.{World, RegionState, Session, Idle, Pending, Packet, BatchPacket, region_of, sealed_by, open_epoch, published_epochs, session_of, holds}
 use Rattle.geo_world.specs.Lines.{changed_one, duplicate, too_old, session_waits, batch_full, answer, seal_ahead, seal_last, batch_sealed, sent, packet_new, packet_known, packet_far, packet_absent, epoch_published, region_waits, shown}
 
@@ -47,7 +48,7 @@ kv_row key = record { table = 0; key = cell.Int key ∷ [] }
 -- the candidate that puts one row
 abbrev pub put_candidate : ℕ → ℤ → ℤ → Candidate
 put_candidate start key value =
-    record { start = start; set = (kv_row key, Put (cell.Int key ∷ cell.Int value ∷ [])) ∷ [] }
+    record { start = start; set = (kv_row key, Put (kv_cells key value)) ∷ [] }
 
 -- the region takes one more open candidate, and its session waits for the verdict
 abbrev pub submitted : ℕ → ℕ → Candidate → CandId → World → World

@@ -1,6 +1,6 @@
 //! The batches of other regions that have come to a region.
 ghost use Rattle.std.specs.Prelude.{◌≡◌, ℕ, None, Some, is_some, OnOk, IfOk};
-ghost use Rattle.geo_world.specs.Arrivals.{batch_in, with_batch};
+ghost use Rattle.geo_world.specs.Arrivals.{batch_in, with_batch, without_batch};
 
 use geo_base::{Epoch, NoMemory, RegionNo};
 use std::alloc::Global;
@@ -40,7 +40,7 @@ pub fn put_batch(inbox: &mut Inbox, batch: Batch) -> Result<(), NoMemory>
 /// Takes a batch out.
 pub fn take_batch(inbox: &mut Inbox, of: RegionNo, epoch: Epoch) -> Option<Batch>
     ensures taken { result ≡ batch_in inbox.old of epoch }
-    ensures others { (q later : ℕ) → ((q ≡ of) × (later ≡ epoch) → ⊥) → batch_in inbox.new q later ≡ batch_in inbox.old q later }
+    ensures left { (q later : ℕ) → batch_in inbox.new q later ≡ without_batch of epoch (batch_in inbox.old) q later }
 {
     inbox.batches.remove(&(of, epoch))
 }

@@ -20,6 +20,7 @@ mod script;
 mod sending;
 mod session;
 mod sessions;
+mod tables;
 mod text_laws;
 mod world;
 mod world_laws;

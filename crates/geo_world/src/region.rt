@@ -1,5 +1,5 @@
 //! One region of the world.
-ghost use Rattle.std.specs.Prelude.{◌≡◌, ◌+◌, ◌^◌, ◌<◌, ◌≤◌, ◌∷◌, ℕ, IfOk, OnOk, is_some, vec_len, nat_le, nat_lt, count_by, length};
+ghost use Rattle.std.specs.Prelude.{◌≡◌, ◌+◌, ◌^◌, ◌<◌, ◌≤◌, ◌∷◌, ℕ, IfOk, OnOk, IsSome, Some, is_some, vec_len, nat_le, nat_lt, count_by, length};
 ghost use Rattle.std.specs.Prelude.{if◌then◌else◌, ◌==◌, ◌||◌};
 ghost use Rattle.geo_world.specs.Arrivals.{batch_in};
 ghost use Rattle.geo_base.specs.declared.limits.TheConstants.{MAX_AHEAD, MAX_REGIONS};
@@ -138,7 +138,7 @@ impl Region {
         have
     }
 
-    /// That region's batch of the epoch, if it is here: the region's own is copied, and another's leaves
+    /// That region's batch of the epoch, which is here: the region's own is copied, and another's leaves
     /// the inbox.
     fn take_next(
         &mut self,
@@ -146,21 +146,19 @@ impl Region {
         number: RegionNo,
         epoch: Epoch,
         of: RegionNo,
-    ) -> Result<Option<Batch>, NoMemory>
-        requires { 0 < epoch }
-        ensures taken { IfOk result (λ batch. batch ≡ next_batch_of self.old number epoch of) }
-        ensures kept { TakesOut of epoch self.old self.new }
+    ) -> Result<Batch, NoMemory>
+        requires some { 0 < epoch }
+        requires there { IsSome (next_batch_of self.old number epoch of) }
+        ensures taken { IfOk result (λ batch. next_batch_of self.old number epoch of ≡ Some batch) }
+        ensures kept { TakesOut number of epoch self.old self.new }
     {
         if of != number {
-            return Ok(take_batch(&mut self.inbox, of, epoch));
+            return Ok(take_batch(&mut self.inbox, of, epoch).unwrap());
         }
-        match self.log.get(epoch as usize - 1) {
-            Some(batch) => Ok(Some(batch.copy(alloc)?)),
-            None => Ok(None),
-        }
+        self.log[epoch as usize - 1].copy(alloc)
     }
 
-    /// The batches of the epoch that are here, by region. Those of other regions leave the inbox.
+    /// The batches of the epoch, which are all here, by region. Those of other regions leave the inbox.
     pub fn gather(
         &mut self,
         alloc: Global,
@@ -168,15 +166,14 @@ impl Region {
         number: RegionNo,
         epoch: Epoch,
     ) -> Result<Vec<Batch>, NoMemory>
-        requires { 0 < epoch }
+        requires some { 0 < epoch }
+        requires there { (of : ℕ) → of < regions → IsSome (next_batch_of self.old number epoch of) }
         ensures batches { IfOk result (λ batches. batches.items ≡ next_batches self.old regions number epoch) }
-        ensures kept { Gathers epoch self.old self.new }
+        ensures kept { OnOk result (Gathers regions number epoch self.old self.new) }
     {
         let mut batches = Vec::new(alloc);
         for of in 0..regions {
-            if let Some(batch) = self.take_next(alloc, number, epoch, of)? {
-                batches.push(batch)?;
-            }
+            batches.push(self.take_next(alloc, number, epoch, of)?)?;
         }
         Ok(batches)
     }
@@ -201,7 +198,7 @@ impl Region {
         ensures verdicts { (epochs : Epochs) → IsMergeOf epochs self.old.plain →
             IfOk result (λ outcomes. outcomes.items ≡ verdicts (candidates_of (next_batches self.old regions number epoch) ∷ epochs)) }
         ensures published { (epochs : Epochs) → IsMergeOf epochs self.old.plain →
-            OnOk result (Publishes (candidates_of (next_batches self.old regions number epoch) ∷ epochs) epoch self.old self.new) }
+            OnOk result (Publishes regions number (candidates_of (next_batches self.old regions number epoch) ∷ epochs) epoch self.old self.new) }
     {
         let batches = self.gather(alloc, regions, number, epoch)?;
         self.plain.step(batches.as_slice())

@@ -1,27 +1,17 @@
 //! The rows of the table of numbers, and the candidates that put them.
-ghost use Rattle.std.specs.Prelude.{◌≡◌, ◌∷◌, [], IfOk};
-ghost use Rattle.geo_world.specs.Step.{kv_row, put_candidate};
-ghost use Rattle.geo_base.specs.declared.cell.Cell.TheVariants as cell;
+ghost use Rattle.std.specs.Prelude.{◌≡◌, ◌∷◌, [], None, IfOk};
+ghost use Rattle.geo_schema.specs.Rows.{row_fault, key_cells};
+ghost use Rattle.geo_world.specs.Tables.{kv_table, kv_tables, kv_cells};
+ghost use Rattle.write_set.specs.declared.change.Change.TheVariants as change;
 
-use geo_base::{Cell, Epoch, Key, NoMemory, RowId, RowImage};
+use geo_base::{Cell, Epoch, NoMemory, RowId, RowImage};
+use geo_schema::Schema;
 use std::alloc::Global;
 use write_set::{Candidate, Change, WriteSet};
 
-/// The name of the row with this key.
-#[tactic(auto, using(geo_base::proofs::KeyFaults::key_fault_none))]
-pub fn row_of(alloc: Global, key: i64) -> Result<RowId, NoMemory>
-    ensures { IfOk result (λ row. row ≡ kv_row key) }
-{
-    let mut cells = Vec::new(alloc);
-    cells.push(Cell::Int(key))?;
-    match Key::new(cells) {
-        Ok(key) => Ok(RowId { table: 0, key }),
-        Err(_) => unreachable!(),
-    }
-}
-
-fn image_of(alloc: Global, key: i64, value: i64) -> Result<RowImage, NoMemory>
-    ensures { IfOk result (λ image. image ≡ cell.Int key ∷ cell.Int value ∷ []) }
+/// The cells of the row with this key and value.
+pub fn image_of(alloc: Global, key: i64, value: i64) -> Result<RowImage, NoMemory>
+    ensures { IfOk result (λ image. image ≡ kv_cells key value) }
 {
     let mut cells = Vec::new(alloc);
     cells.push(Cell::Int(key))?;
@@ -32,17 +22,27 @@ fn image_of(alloc: Global, key: i64, value: i64) -> Result<RowImage, NoMemory>
     }
 }
 
-/// The candidate that puts the row with this key and value.
+/// The name of a row of the table.
+pub fn row_of(alloc: Global, schema: &Schema, image: &RowImage) -> Result<RowId, NoMemory>
+    requires table { schema.now ≡ kv_tables }
+    requires fits { row_fault kv_table image.now ≡ None }
+    ensures { IfOk result (λ row. row ≡ record { table = 0; key = key_cells kv_table image.now }) }
+{
+    Ok(RowId {
+        table: 0,
+        key: schema.key_of(alloc, 0, image)?,
+    })
+}
+
+/// The candidate that puts the row.
 pub fn candidate_of(
     alloc: Global,
     start: Epoch,
-    key: i64,
-    value: i64,
+    row: RowId,
+    image: RowImage,
 ) -> Result<Candidate, NoMemory>
-    ensures { IfOk result (λ candidate. candidate ≡ put_candidate start key value) }
+    ensures { IfOk result (λ c. c ≡ record { start = start; set = (row, change.Put image) ∷ [] }) }
 {
-    let row = row_of(alloc, key)?;
-    let image = image_of(alloc, key, value)?;
     let set = WriteSet::one(alloc, row, Change::Put(image))?;
     Ok(Candidate { start, set })
 }

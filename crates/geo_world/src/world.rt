@@ -13,13 +13,16 @@ mod tests;
 use crate::event::Event;
 use crate::packet::Packet;
 use crate::region::Region;
+use crate::tables::kv_schema;
 use geo_base::{Epoch, NoMemory};
+use geo_schema::Schema;
 use std::alloc::Global;
 
-/// All regions, and every packet that was ever sent.
+/// The schema, all regions, and every packet that was ever sent.
 #[derive(Debug, Drop)]
 pub struct World {
     alloc: Global,
+    schema: Schema,
     last: Epoch,
     regions: Vec<Region>,
     packets: Vec<Packet>,
@@ -35,12 +38,14 @@ impl World {
         ensures count { IfOk result (λ world. region_count world ≡ regions) }
         ensures first { IfOk result (λ world. StandsFor (first_world regions last) world) }
     {
+        let schema = kv_schema(alloc)?;
         let mut all = Vec::new(alloc);
         for _made in 0..regions {
             all.push(Region::new(alloc, regions)?)?;
         }
         Ok(World {
             alloc,
+            schema,
             last,
             regions: all,
             packets: Vec::new(alloc),

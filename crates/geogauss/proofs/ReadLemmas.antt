@@ -80,15 +80,6 @@ pub fault-is : (input bytes : List ℕ) (fault : ScriptFault) (line : ℕ) (kind
     fault.line ≡ line → fault.kind ≡ kind → IsFault (bytes_read input) (record { line = line; kind = kind })
 fault-is input bytes fault line kind e is l k = rw e (rw (← l) (rw (← k) is))
 
--- a script that was not read was refused, or there was a fault of the source, or no memory
-pub reading-faults : (s : Status) → IsReadingFault s → IsScriptFault s ⊎ ((s ≡ status.ReadFault) ⊎ (s ≡ status.NoMemory))
-reading-faults status.Done h = absurd h
-reading-faults status.Usage h = absurd h
-reading-faults (status.ScriptFault line kind) h = inl tt
-reading-faults status.ReadFault h = inr (inl refl)
-reading-faults status.WriteFault h = absurd h
-reading-faults status.NoMemory h = inr (inr refl)
-
 -- of these, none is a refusal
 pub reading-unfaulted : (s : Status) → (s ≡ status.ReadFault) ⊎ (s ≡ status.NoMemory) → IsScriptFault s → ⊥
 reading-unfaulted s (inl e) fault = rw e at fault

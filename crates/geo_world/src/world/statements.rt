@@ -13,7 +13,7 @@ use crate::event::Statement;
 use crate::printing::{
     print_answer, print_changed_one, print_duplicate, print_session_waits, print_shown,
 };
-use crate::rows::{candidate_of, row_of};
+use crate::rows::{candidate_of, image_of, row_of};
 use crate::session::Session;
 use crate::sessions::session_state;
 use geo_base::{NoMemory, RegionNo};
@@ -100,13 +100,14 @@ impl World {
             OnOk result (Makes (run_statement w number session (statement.Insert key value)) (string_bytes out.old) (string_bytes out.new) self.new) }
     {
         let alloc = self.alloc;
-        let row = row_of(alloc, key)?;
+        let image = image_of(alloc, key, value)?;
+        let row = row_of(alloc, &self.schema, &image)?;
         let region = &self.regions[number as usize];
         if region.has_row(&row) {
             return print_duplicate(out, number, session, &row);
         }
         let start = region.plain.epoch();
-        let candidate = candidate_of(alloc, start, key, value)?;
+        let candidate = candidate_of(alloc, start, row, image)?;
         let ticket = self.regions[number as usize].take(number, session, candidate)?;
         print_changed_one(out, number, session, ticket)
     }

@@ -51,5 +51,5 @@ returns-clause-step c = λ w s.
     on_ok_weaker c.print_packet_new.result
     (new-makes w k _ c.args.packet p c.index_mut.result.now c.receive.new.self _ _ s at
     (region-stands w k p.to c.index_mut.result.now s there c.index_mut.ensures.value) unknown receives
-    (record { last = refl; regions = refl; within = subst (λ n. p.to < n) k.regions.ok.0 there }) refl)
+    (record { schema = refl; last = refl; regions = refl; within = subst (λ n. p.to < n) k.regions.ok.0 there }) refl)
     c.print_packet_new.ensures

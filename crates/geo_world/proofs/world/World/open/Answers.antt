@@ -14,4 +14,4 @@ loop-made-preserved c = record {
 
 pub returns-clause-first : goal.returns-clause-first
 returns-clause-first c =
-    opened-stands c.args.regions c.args.last _ c.requires.some c.requires.few (omega arith) refl (omega arith) c.loop-made.invariant.new c.new-2.ensures.items
+    opened-stands c.args.regions c.args.last _ c.requires.some c.requires.few (omega arith) c.in_ok-schema.ensures refl (omega arith) c.loop-made.invariant.new c.new-2.ensures.items

@@ -71,9 +71,9 @@ returns-clause-step c = λ w s.
     subst (λ (x : Region). (epochs : Epochs) → IsMergeOf epochs x.plain →
     c.in_ok-outcomes.outcomes.items ≡ verdicts (candidates_of (next_batches x c.len-regions.result c.args.number c.next_epoch-epoch.result) ∷ epochs)) same c.in_ok-outcomes.ensures.verdicts in
     let published : (epochs : Epochs) → IsMergeOf epochs r.plain →
-    Publishes (candidates_of (next_batches r c.len-regions.result c.args.number c.next_epoch-epoch.result) ∷ epochs) c.next_epoch-epoch.result r c.publish.new.self =
+    Publishes c.len-regions.result c.args.number (candidates_of (next_batches r c.len-regions.result c.args.number c.next_epoch-epoch.result) ∷ epochs) c.next_epoch-epoch.result r c.publish.new.self =
     subst (λ (x : Region). (epochs : Epochs) → IsMergeOf epochs x.plain →
-    Publishes (candidates_of (next_batches x c.len-regions.result c.args.number c.next_epoch-epoch.result) ∷ epochs) c.next_epoch-epoch.result x c.publish.new.self) same
+    Publishes c.len-regions.result c.args.number (candidates_of (next_batches x c.len-regions.result c.args.number c.next_epoch-epoch.result) ∷ epochs) c.next_epoch-epoch.result x c.publish.new.self) same
     c.in_ok-outcomes.ensures.published in
     let within : c.args.number < length k.regions.items = subst (λ (n : ℕ). c.args.number < n) k.regions.ok.0 c.requires.region in
     let committed : c.count_committed-commits.result ≡ count_by is_committed c.in_ok-outcomes.outcomes.items =
@@ -84,5 +84,5 @@ returns-clause-step c = λ w s.
     (published-makes w k _ c.args.number c.next_epoch-epoch.result c.count_next-have.result c.len-regions.result c.count_committed-commits.result c.count_aborted-aborts.result
     c.in_ok-outcomes.outcomes.items r c.publish.new.self _ _ s c.requires.region (region-read k c.args.number r c.requires.region c.index-region.ensures)
     c.next_epoch-epoch.ensures c.count_next-have.ensures c.len-regions.ensures c.if-have-regions.false told published
-    (record { last = refl; regions = refl; within = within }) refl committed aborted)
+    (record { schema = refl; last = refl; regions = refl; within = within }) refl committed aborted)
     c.print_epoch_published.ensures

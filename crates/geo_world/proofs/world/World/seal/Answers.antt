@@ -48,5 +48,5 @@ returns-clause-step c = λ w s.
     (λ packets lines. sealed-makes w k _ c.args.number c.len-count.result c.len-regions.result r c.seal.new.self c.index-batch.result.now
     (string_bytes c.args.out.now) (string_bytes c.print_batch_sealed.new.out) _ s c.requires.region
     (region-read k c.args.number r c.requires.region c.index-region.ensures) c.if-epoch-self.false (sym c.if-is_ahead.ensures) seals
-    (record { last = refl; regions = refl; within = within }) is (c.len-count.ensures ∙ r.waiting.ok.0) c.len-regions.ensures packets c.in_ok-print_batch_sealed.ensures lines)
+    (record { schema = refl; last = refl; regions = refl; within = within }) is (c.len-count.ensures ∙ r.waiting.ok.0) c.len-regions.ensures packets c.in_ok-print_batch_sealed.ensures lines)
     c.send_all.ensures.packets c.send_all.ensures.lines
