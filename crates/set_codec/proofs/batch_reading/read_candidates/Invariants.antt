@@ -1,0 +1,10 @@
+use Rattle.std.proofs.Common.{◌≤◌, ◌-◌, length}
+use Rattle.set_codec.specs.Reading.{candidates_at}
+use Rattle.set_codec.proofs.Loop.{ComesTo}
+use Rattle.set_codec.proofs.batch_reading.read_candidates.Given as goal
+
+abbrev pub invariant-loop : goal.invariant-loop
+invariant-loop l = record {
+  within : l.next ≤ length l.bytes;
+  so_far : ComesTo l.items.items (candidates_at l.schema l.epoch l.count l.bytes l.fn.at) (candidates_at l.schema l.epoch (l.count - l.counter) l.bytes l.next);
+}

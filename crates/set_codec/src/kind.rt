@@ -1,0 +1,12 @@
+//! The bytes that say which kind of change or of packet follows.
+
+pub const PUT: u8 = 1;
+
+pub const REMOVE: u8 = 2;
+
+pub const BATCH: u8 = 1;
+
+pub const FETCH: u8 = 2;
+
+/// What each batch begins with.
+pub const MARK: [u8; 4] = *b"GGB1";
