@@ -1,7 +1,8 @@
 //! Cuts a text into its tokens.
 
-ghost use Rattle.std.specs.Prelude.{◌≡◌, ◌⊎◌, ◌<◌, ◌^◌, length, IfOk, MatchResult};
+ghost use Rattle.std.specs.Prelude.{◌≡◌, ◌⊎◌, ◌<◌, ◌^◌, ℕ, length, IfOk, IfErr, MatchResult};
 ghost use Rattle.sql_lex.specs.Pieces as spec;
+ghost use Rattle.sql_lex.specs.Grammar.{AreTokensOf, StopsAt};
 ghost use Rattle.sql_lex.specs.Tokens.{tokens_of};
 
 use crate::bytes::{begins_word, is_blank};
@@ -32,9 +33,8 @@ fn piece_at(alloc: Global, text: &str) -> Result<Option<Piece>, NoMemory>
     }
 }
 
-/// Cuts a text into its tokens. The fault is at the first place where a token would have to begin
-/// and none does.
-pub fn lex(alloc: Global, text: &str) -> Result<Vec<Token>, LexFault>
+// The tokens of a text.
+fn cut_text(alloc: Global, text: &str) -> Result<Vec<Token>, LexFault>
     requires { length text.now < 2 ^ 32 }
     ensures { MatchResult result
         (λ tokens. tokens_of text.now ≡ Ok tokens.items)
@@ -61,4 +61,18 @@ pub fn lex(alloc: Global, text: &str) -> Result<Vec<Token>, LexFault>
         })?;
     }
     Ok(tokens)
+}
+
+/// Cuts a text into its tokens. The fault is at the first place where a token would have to begin
+/// and none does. Takes time that grows as the text's length.
+#[tactic(auto, using(crate::proofs::Cuts::tokens_are_cut, crate::proofs::Cuts::fault_stops))]
+pub fn lex(alloc: Global, text: &str) -> Result<Vec<Token>, LexFault>
+    requires { length text.now < 2 ^ 32 }
+    ensures exact { MatchResult result
+        (λ tokens. tokens_of text.now ≡ Ok tokens.items)
+        (λ fault. (fault ≡ LexFault.NoMemory) ⊎ (tokens_of text.now ≡ Err fault)) }
+    ensures cut { IfOk result (λ tokens. AreTokensOf tokens.items text.now) }
+    ensures stops { IfErr result (λ fault. (fault ≡ LexFault.NoMemory) ⊎ ((at : ℕ) × (fault ≡ LexFault.BadText at) × StopsAt text.now at)) }
+{
+    cut_text(alloc, text)
 }

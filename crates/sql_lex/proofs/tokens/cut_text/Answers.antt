@@ -3,7 +3,7 @@ use Rattle.sql_lex.specs.Bytes.{is_blank}
 use Rattle.sql_lex.specs.Pieces.{piece}
 use Rattle.sql_lex.proofs.Boundaries.{after_blank, after_blank_utf8, after_piece, after_piece_utf8}
 use Rattle.sql_lex.proofs.Cuts.{IsLexedUpTo, lexed_nothing, lexed_blank, lexed_token, lexed_fault, lexed_all, piece_within}
-use Rattle.sql_lex.proofs.tokens.lex.Goals as goal
+use Rattle.sql_lex.proofs.tokens.cut_text.Goals as goal
 
 pub loop-rest-init : goal.loop-rest-init
 loop-rest-init c = record {
