@@ -1,0 +1,59 @@
+-- What a token is, by its kind.
+use denote.Enum.Bare.{sameb}
+use Rattle.std.specs.Prelude.{ℕ, Bool, true, false, ◌==◌, List, [], ◌∷◌, Option, Some, None, ℤ, pos, negsuc}
+use Rattle.sql_ast.specs.declared.ast.AstOp.{AstOp}
+use Rattle.sql_ast.specs.declared.ast.AstOp.TheVariants as op
+use Rattle.sql_lex.specs.declared.keyword.Keyword.{Keyword}
+use Rattle.sql_lex.specs.declared.keyword.Keyword.TheVariants.{KAnd, KOr}
+use Rattle.sql_lex.specs.contracts.keyword.Keyword as keyword
+use Rattle.sql_lex.specs.declared.symbol.Symbol.{Symbol}
+use Rattle.sql_lex.specs.declared.symbol.Symbol.TheVariants as symbol
+use Rattle.sql_lex.specs.contracts.symbol.Symbol as symbols
+use Rattle.sql_lex.specs.declared.token.TokenKind.{TokenKind}
+use Rattle.sql_lex.specs.declared.token.TokenKind.TheVariants as kind
+
+-- the token is the keyword
+abbrev pub is_keyword : Keyword → TokenKind → Bool
+is_keyword k (kind.Keyword other) = sameb keyword.the_type other k
+is_keyword k _ = false
+
+-- the token is the symbol
+abbrev pub is_symbol : Symbol → TokenKind → Bool
+is_symbol s (kind.Symbol other) = sameb symbols.the_type other s
+is_symbol s _ = false
+
+-- the number that an integer is. No token is a number below zero.
+abbrev pub integer_of : TokenKind → Option ℕ
+integer_of (kind.Int (pos n)) = Some n
+integer_of _ = None
+
+-- the operator between two operands that the token is
+abbrev pub operator_of : TokenKind → Option AstOp
+operator_of (kind.Keyword KOr) = Some op.Or
+operator_of (kind.Keyword KAnd) = Some op.And
+operator_of (kind.Symbol symbol.Equal) = Some op.Equal
+operator_of (kind.Symbol symbol.Differ) = Some op.Differ
+operator_of (kind.Symbol symbol.Less) = Some op.Less
+operator_of (kind.Symbol symbol.LessEqual) = Some op.LessEqual
+operator_of (kind.Symbol symbol.More) = Some op.More
+operator_of (kind.Symbol symbol.MoreEqual) = Some op.MoreEqual
+operator_of (kind.Symbol symbol.Plus) = Some op.Plus
+operator_of (kind.Symbol symbol.Minus) = Some op.Minus
+operator_of (kind.Symbol symbol.Star) = Some op.Times
+operator_of (kind.Symbol symbol.Slash) = Some op.Divide
+operator_of _ = None
+
+-- the token of an operator
+abbrev pub operator_kind : AstOp → TokenKind
+operator_kind op.Or = kind.Keyword KOr
+operator_kind op.And = kind.Keyword KAnd
+operator_kind op.Equal = kind.Symbol symbol.Equal
+operator_kind op.Differ = kind.Symbol symbol.Differ
+operator_kind op.Less = kind.Symbol symbol.Less
+operator_kind op.LessEqual = kind.Symbol symbol.LessEqual
+operator_kind op.More = kind.Symbol symbol.More
+operator_kind op.MoreEqual = kind.Symbol symbol.MoreEqual
+operator_kind op.Plus = kind.Symbol symbol.Plus
+operator_kind op.Minus = kind.Symbol symbol.Minus
+operator_kind op.Times = kind.Symbol symbol.Star
+operator_kind op.Divide = kind.Symbol symbol.Slash

@@ -1,0 +1,9 @@
+pub mod Kinds
+pub mod Levels
+pub mod Trees
+pub mod Forms
+pub mod Grammar
+pub mod Expressions
+pub mod Reading
+pub mod Parsing
+pub mod Refusals

@@ -1,0 +1,128 @@
+-- Expressions as they are written: what stands in an expression's tokens, with its parentheses.
+use Rattle.std.specs.Prelude.{◌≡◌, ◌≤◌, ◌≢◌, ℕ, ◌+◌, Bool, true, false, List, [], ◌∷◌, ◌++◌, map, Option, Some, None, ℤ, pos, neg_ℤ}
+use Rattle.geo_base.specs.declared.cell.Cell.TheVariants as cell
+use Rattle.sql_ast.specs.declared.ast.Ast.{Ast}
+use Rattle.sql_ast.specs.declared.ast.Ast.TheVariants as ast
+use Rattle.sql_ast.specs.declared.ast.AstOp.{AstOp}
+use Rattle.sql_ast.specs.declared.ast.ColRef.{ColRef}
+use Rattle.sql_lex.specs.declared.keyword.Keyword.TheVariants.{KNot, KIs, KNull, KTrue, KFalse}
+use Rattle.sql_lex.specs.declared.symbol.Symbol.TheVariants as symbol
+use Rattle.sql_lex.specs.declared.token.TokenKind.{TokenKind}
+use Rattle.sql_lex.specs.declared.token.TokenKind.TheVariants as kind
+use Rattle.sql_parse.specs.Kinds.{operator_kind}
+use Rattle.sql_parse.specs.Levels.{level_of, left_of, right_of, not_level, test_level, sum_level, sign_level, whole_level}
+
+-- what a token does in a statement
+pub data Role : Type 0 where
+  -- it is an operator of an expression
+  Operator : Role
+  -- it is an opening parenthesis of an expression
+  Opening : Role
+  -- it is another token of an expression
+  Inside : Role
+  -- it belongs to no expression
+  Outside : Role
+
+-- a token with what it does
+pub record Mark : Type 0 where
+  pub kind : TokenKind
+  pub role : Role
+
+abbrev pub mark : Role → TokenKind → Mark
+mark role kind = record { kind = kind; role = role }
+
+-- the tokens alone
+abbrev pub kinds : List Mark → List TokenKind
+kinds marks = map (λ m. m.kind) marks
+
+pub data Tree : Type 0 where
+  Int : ℕ → Tree
+  -- a minus sign and an integer
+  Negative : ℕ → Tree
+  Text : List ℕ → Tree
+  Truth : Bool → Tree
+  Null : Tree
+  Column : ColRef → Tree
+  Paren : Tree → Tree
+  -- a minus sign before anything else
+  Minus : Tree → Tree
+  Infix : AstOp → Tree → Tree → Tree
+  Not : Tree → Tree
+  -- IS NULL, and where the flag is true IS NOT NULL
+  IsNull : Tree → Bool → Tree
+
+-- how tight its parts hold together
+abbrev pub level : Tree → ℕ
+level (Infix operator a b) = level_of operator
+level (Not a) = not_level
+level (IsNull a is_not) = test_level
+level (Minus a) = sign_level
+level (Int n) = whole_level
+level (Negative n) = whole_level
+level (Text t) = whole_level
+level (Truth t) = whole_level
+level Null = whole_level
+level (Column c) = whole_level
+level (Paren a) = whole_level
+
+-- a minus sign before this is an operator, and makes no negative literal of it
+abbrev pub TakesSign : Tree → Type 0
+TakesSign (Int n) = ⊥
+TakesSign _ = Unit {0}
+
+-- each operand is as tight as the grammar wants it
+abbrev pub IsPhrase : Tree → Type 0
+IsPhrase (Infix operator a b) = IsPhrase a × IsPhrase b × (left_of operator ≤ level a) × (right_of operator ≤ level b)
+IsPhrase (Not a) = IsPhrase a × (not_level ≤ level a)
+IsPhrase (IsNull a is_not) = IsPhrase a × (sum_level ≤ level a)
+IsPhrase (Minus a) = IsPhrase a × (sign_level ≤ level a) × TakesSign a
+IsPhrase (Paren a) = IsPhrase a
+IsPhrase _ = Unit {0}
+
+-- the tokens of a column
+abbrev pub column_kinds : ColRef → List TokenKind
+column_kinds column = qualifier column.table ++ kind.Name column.name ∷ []
+  where
+    qualifier : Option (List ℕ) → List TokenKind
+    qualifier None = []
+    qualifier (Some table) = kind.Name table ∷ kind.Symbol symbol.Dot ∷ []
+
+abbrev pub inside : List TokenKind → List Mark
+inside kinds = map (mark Inside) kinds
+
+abbrev pub truth_kind : Bool → TokenKind
+truth_kind true = kind.Keyword KTrue
+truth_kind false = kind.Keyword KFalse
+
+-- what stands behind IS
+abbrev pub null_kinds : Bool → List TokenKind
+null_kinds false = kind.Keyword KNull ∷ []
+null_kinds true = kind.Keyword KNot ∷ kind.Keyword KNull ∷ []
+
+-- its tokens
+abbrev pub marks : Tree → List Mark
+marks (Int n) = inside (kind.Int (pos n) ∷ [])
+marks (Negative n) = inside (kind.Symbol symbol.Minus ∷ kind.Int (pos n) ∷ [])
+marks (Text text) = inside (kind.Text text ∷ [])
+marks (Truth truth) = inside (truth_kind truth ∷ [])
+marks Null = inside (kind.Keyword KNull ∷ [])
+marks (Column column) = inside (column_kinds column)
+marks (Paren a) = mark Opening (kind.Symbol symbol.Open) ∷ (marks a ++ inside (kind.Symbol symbol.Close ∷ []))
+marks (Minus a) = mark Operator (kind.Symbol symbol.Minus) ∷ marks a
+marks (Infix operator a b) = marks a ++ mark Operator (operator_kind operator) ∷ marks b
+marks (Not a) = mark Operator (kind.Keyword KNot) ∷ marks a
+marks (IsNull a is_not) = marks a ++ mark Operator (kind.Keyword KIs) ∷ inside (null_kinds is_not)
+
+-- the expression that it is
+abbrev pub value : Tree → Ast
+value (Int n) = ast.Lit (cell.Int (pos n))
+value (Negative n) = ast.Lit (cell.Int (neg_ℤ (pos n)))
+value (Text text) = ast.Lit (cell.Text text)
+value (Truth truth) = ast.Lit (cell.Truth truth)
+value Null = ast.Lit cell.Null
+value (Column column) = ast.Column column
+value (Paren a) = value a
+value (Minus a) = ast.Neg (value a)
+value (Infix operator a b) = ast.Binary operator (value a) (value b)
+value (Not a) = ast.Not (value a)
+value (IsNull a is_not) = ast.IsNull (value a) is_not

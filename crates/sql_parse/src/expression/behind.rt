@@ -1,0 +1,175 @@
+//! The token behind an operand, or behind a part of one.
+
+ghost use Rattle.std.specs.Prelude.{◌≡◌, IfOk};
+ghost use Rattle.sql_parse.specs.Expressions as spec;
+ghost use Rattle.sql_parse.specs.Levels as levels;
+
+use crate::expression::frame::Frame;
+use crate::expression::levels::{SUM_LEVEL, TEST_LEVEL, WHOLE_LEVEL, left_of, level_of};
+use crate::expression::reader::{Mode, Reader, Step};
+use crate::expression::settle::settle;
+use crate::kinds::{is_keyword, is_symbol, operator_of};
+use geo_base::{Duplicate, NoMemory, Txt};
+use sql_ast::{Ast, AstOp, ColRef};
+use sql_lex::{Keyword, Symbol, TokenKind};
+use sqlite_items::Boxed;
+use std::alloc::Global;
+
+// An operator between two operands.
+fn infix_step(
+    alloc: Global,
+    mut reader: Reader,
+    operator: AstOp,
+    value: Ast,
+    level: u8,
+) -> Result<Step, NoMemory>
+    ensures { IfOk result (λ step. step ≡
+        spec.infix_step reader operator (spec.settled (levels.level_of operator) value level reader.frames)) }
+{
+    let (left, tight) = settle(alloc, level_of(operator), value, level, &mut reader.frames)?;
+    if tight < left_of(operator) {
+        return Ok(Step::Refuses);
+    }
+    reader.frames.push(Frame::Left(operator, left))?;
+    Ok(reader.with_operator(Mode::Operand))
+}
+
+// IS.
+fn is_step(alloc: Global, mut reader: Reader, value: Ast, level: u8) -> Result<Step, NoMemory>
+    ensures { IfOk result (λ step. step ≡ spec.is_step reader (spec.settled levels.test_level value level reader.frames)) }
+{
+    let (operand, tight) = settle(alloc, TEST_LEVEL, value, level, &mut reader.frames)?;
+    if tight < SUM_LEVEL {
+        return Ok(Step::Refuses);
+    }
+    Ok(reader.with_operator(Mode::Is(operand)))
+}
+
+// A closing parenthesis, which ends the expression where none is open.
+fn close_step(alloc: Global, mut reader: Reader, value: Ast, level: u8) -> Result<Step, NoMemory>
+    ensures { IfOk result (λ step. step ≡
+        spec.close_step reader (spec.settled 0 value level reader.frames) (spec.settled 0 value level reader.frames).frames) }
+{
+    let (inner, _) = settle(alloc, 0, value, level, &mut reader.frames)?;
+    match reader.frames.pop() {
+        None => Ok(Step::Ends(inner)),
+        Some(_) => Ok(reader.goes(Mode::Complete(inner, WHOLE_LEVEL))),
+    }
+}
+
+// A token that belongs to no expression.
+fn end_step(alloc: Global, mut reader: Reader, value: Ast, level: u8) -> Result<Step, NoMemory>
+    ensures { IfOk result (λ step. step ≡
+        spec.end_step (spec.settled 0 value level reader.frames) (spec.settled 0 value level reader.frames).frames) }
+{
+    let (inner, _) = settle(alloc, 0, value, level, &mut reader.frames)?;
+    match reader.frames.pop() {
+        None => Ok(Step::Ends(inner)),
+        Some(_) => Ok(Step::Refuses),
+    }
+}
+
+/// The token behind a whole operand.
+#[tactic(auto, unfolding(crate::specs::Expressions::complete_step))]
+pub fn complete_step(
+    alloc: Global,
+    reader: Reader,
+    value: Ast,
+    level: u8,
+    token: &TokenKind,
+) -> Result<Step, NoMemory>
+    ensures { IfOk result (λ step. step ≡ spec.complete_step reader value level token.now) }
+{
+    if let Some(operator) = operator_of(token) {
+        return infix_step(alloc, reader, operator, value, level);
+    }
+    if is_keyword(Keyword::KIs, token) {
+        is_step(alloc, reader, value, level)
+    } else if is_symbol(Symbol::Close, token) {
+        close_step(alloc, reader, value, level)
+    } else {
+        end_step(alloc, reader, value, level)
+    }
+}
+
+/// The column of the name.
+pub fn column(table: Option<Txt>, name: Txt) -> Ast
+    ensures { result ≡ spec.column table name }
+{
+    Ast::Column(ColRef { table, name })
+}
+
+/// The token behind a name.
+pub fn named_step(
+    alloc: Global,
+    reader: Reader,
+    name: Txt,
+    token: &TokenKind,
+) -> Result<Step, NoMemory>
+    ensures { IfOk result (λ step. step ≡ spec.named_step reader name token.now) }
+{
+    if is_symbol(Symbol::Dot, token) {
+        return Ok(reader.goes(Mode::Qualified(name)));
+    }
+    complete_step(alloc, reader, column(None, name), WHOLE_LEVEL, token)
+}
+
+/// The token behind a name and a dot.
+pub fn qualified_step(
+    alloc: Global,
+    reader: Reader,
+    table: Txt,
+    token: &TokenKind,
+) -> Result<Step, NoMemory>
+    ensures { IfOk result (λ step. step ≡ spec.qualified_step reader table token.now) }
+{
+    match token {
+        TokenKind::Name(name) => {
+            let name = name.copy(alloc)?;
+            Ok(reader.literal(column(Some(table), name)))
+        }
+        _ => Ok(Step::Refuses),
+    }
+}
+
+// The test of the value for NULL.
+fn null_test(alloc: Global, reader: Reader, value: Ast, is_not: bool) -> Result<Step, NoMemory>
+    ensures { IfOk result (λ step. step ≡ spec.null_test reader value is_not) }
+{
+    let value = Boxed::new(alloc, value)?;
+    Ok(reader.goes(Mode::Complete(Ast::IsNull(value, is_not), TEST_LEVEL)))
+}
+
+/// The token behind IS.
+pub fn is_behind_step(
+    alloc: Global,
+    reader: Reader,
+    value: Ast,
+    token: &TokenKind,
+) -> Result<Step, NoMemory>
+    ensures { IfOk result (λ step. step ≡ spec.is_behind_step reader value token.now) }
+{
+    if is_keyword(Keyword::KNull, token) {
+        null_test(alloc, reader, value, false)
+    } else if is_keyword(Keyword::KNot, token) {
+        Ok(reader.goes(Mode::IsNot(value)))
+    } else {
+        Ok(Step::Refuses)
+    }
+}
+
+/// The token behind IS NOT.
+pub fn is_not_step(
+    alloc: Global,
+    reader: Reader,
+    value: Ast,
+    token: &TokenKind,
+) -> Result<Step, NoMemory>
+    ensures { IfOk result (λ step. step ≡ spec.is_not_step reader value token.now) }
+{
+    if is_keyword(Keyword::KNull, token) {
+        null_test(alloc, reader, value, true)
+    } else {
+        Ok(Step::Refuses)
+    }
+}

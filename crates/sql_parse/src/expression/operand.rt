@@ -1,0 +1,117 @@
+//! The token where an operand has to begin.
+
+ghost use Rattle.std.specs.Prelude.{◌≡◌, ◌∷◌, IfOk};
+ghost use Rattle.sql_lex.specs.declared.token.TokenKind.{TokenKind};
+ghost use Rattle.sql_parse.specs.Expressions as spec;
+ghost use Rattle.sql_parse.specs.Kinds.{integer_of};
+
+use crate::expression::frame::Frame;
+use crate::expression::levels::NOT_LEVEL;
+use crate::expression::reader::{Mode, Reader, Step};
+use crate::expression::settle::wanted;
+use crate::kinds::integer_of;
+use geo_base::{Cell, Duplicate, NoMemory};
+use sql_ast::Ast;
+use sql_lex::{Keyword, Symbol, TokenKind};
+use std::alloc::Global;
+
+// A minus sign: a literal's where an integer follows, and else an operator.
+fn signed(mut reader: Reader, before_integer: bool) -> Result<Step, NoMemory>
+    ensures { IfOk result (λ step. step ≡ spec.signed reader before_integer) }
+{
+    if before_integer {
+        return Ok(reader.goes(Mode::Negative));
+    }
+    reader.frames.push(Frame::Minus)?;
+    Ok(reader.with_operator(Mode::Operand))
+}
+
+// An opening parenthesis.
+fn opened(mut reader: Reader) -> Result<Step, NoMemory>
+    ensures { IfOk result (λ step. step ≡ spec.with_opening Mode.Operand (Frame.Paren ∷ reader.frames) reader) }
+{
+    reader.frames.push(Frame::Paren)?;
+    Ok(reader.with_opening(Mode::Operand))
+}
+
+// NOT, which may not stand inside what is tighter.
+fn denied(mut reader: Reader) -> Result<Step, NoMemory>
+    ensures { IfOk result (λ step. step ≡ spec.denied reader) }
+{
+    if wanted(&reader.frames) > NOT_LEVEL {
+        return Ok(Step::Refuses);
+    }
+    reader.frames.push(Frame::Not)?;
+    Ok(reader.with_operator(Mode::Operand))
+}
+
+// An integer.
+fn number(reader: Reader, token: &TokenKind) -> Step
+    ensures { result ≡ spec.number reader (integer_of token.now) }
+{
+    match integer_of(token) {
+        Some(number) => reader.literal(Ast::Lit(Cell::Int(number as i64))),
+        None => Step::Refuses,
+    }
+}
+
+/// An integer behind its minus sign.
+pub fn negative(reader: Reader, token: &TokenKind) -> Step
+    ensures { result ≡ spec.negative reader (integer_of token.now) }
+{
+    match integer_of(token) {
+        Some(number) => reader.literal(Ast::Lit(Cell::Int(-(number as i64)))),
+        None => Step::Refuses,
+    }
+}
+
+// A symbol.
+#[tactic(auto, unfolding(crate::specs::Expressions::operand_step))]
+fn symbol_step(reader: Reader, symbol: Symbol, before_integer: bool) -> Result<Step, NoMemory>
+    ensures { IfOk result (λ step. step ≡ spec.operand_step reader (TokenKind.Symbol symbol) before_integer) }
+{
+    match symbol {
+        Symbol::Minus => signed(reader, before_integer),
+        Symbol::Open => opened(reader),
+        _ => Ok(Step::Refuses),
+    }
+}
+
+// A keyword.
+#[tactic(auto, unfolding(crate::specs::Expressions::operand_step))]
+fn keyword_step(reader: Reader, keyword: Keyword, before_integer: bool) -> Result<Step, NoMemory>
+    ensures { IfOk result (λ step. step ≡ spec.operand_step reader (TokenKind.Keyword keyword) before_integer) }
+{
+    match keyword {
+        Keyword::KNot => denied(reader),
+        Keyword::KNull => Ok(reader.literal(Ast::Lit(Cell::Null))),
+        Keyword::KTrue => Ok(reader.literal(Ast::Lit(Cell::Truth(true)))),
+        Keyword::KFalse => Ok(reader.literal(Ast::Lit(Cell::Truth(false)))),
+        _ => Ok(Step::Refuses),
+    }
+}
+
+/// The token where an operand has to begin.
+#[tactic(auto, unfolding(crate::specs::Expressions::operand_step))]
+pub fn operand_step(
+    alloc: Global,
+    reader: Reader,
+    token: &TokenKind,
+    before_integer: bool,
+) -> Result<Step, NoMemory>
+    ensures { IfOk result (λ step. step ≡ spec.operand_step reader token.now before_integer) }
+{
+    match token {
+        TokenKind::Symbol(symbol) => symbol_step(reader, *symbol, before_integer),
+        TokenKind::Keyword(keyword) => keyword_step(reader, *keyword, before_integer),
+        TokenKind::Text(text) => {
+            let text = text.copy(alloc)?;
+            Ok(reader.literal(Ast::Lit(Cell::Text(text))))
+        }
+        TokenKind::Name(name) => {
+            let name = name.copy(alloc)?;
+            Ok(reader.goes(Mode::Named(name)))
+        }
+        TokenKind::Int(_) => Ok(number(reader, token)),
+    }
+}

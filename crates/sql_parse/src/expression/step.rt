@@ -1,0 +1,50 @@
+//! What a token does.
+
+ghost use Rattle.std.specs.Prelude.{◌≡◌, IfOk};
+ghost use Rattle.sql_parse.specs.Expressions as spec;
+
+use crate::expression::behind::{
+    column, complete_step, is_behind_step, is_not_step, named_step, qualified_step,
+};
+use crate::expression::levels::WHOLE_LEVEL;
+use crate::expression::operand::{negative, operand_step};
+use crate::expression::reader::{Mode, Reader, Step};
+use crate::expression::settle::whole;
+use geo_base::NoMemory;
+use sql_ast::Ast;
+use sql_lex::TokenKind;
+use std::alloc::Global;
+
+/// What the token does, where it is told whether an integer follows.
+#[tactic(auto, unfolding(crate::specs::Expressions::step))]
+pub fn step(
+    alloc: Global,
+    mut reader: Reader,
+    token: &TokenKind,
+    before_integer: bool,
+) -> Result<Step, NoMemory>
+    ensures { IfOk result (λ step. step ≡ spec.step reader token.now before_integer) }
+{
+    match std::mem::replace(&mut reader.mode, Mode::Operand) {
+        Mode::Operand => operand_step(alloc, reader, token, before_integer),
+        Mode::Negative => Ok(negative(reader, token)),
+        Mode::Named(name) => named_step(alloc, reader, name, token),
+        Mode::Qualified(table) => qualified_step(alloc, reader, table, token),
+        Mode::Complete(value, level) => complete_step(alloc, reader, value, level, token),
+        Mode::Is(value) => is_behind_step(alloc, reader, value, token),
+        Mode::IsNot(value) => is_not_step(alloc, reader, value, token),
+    }
+}
+
+/// The expression that was read, where all tokens were.
+#[tactic(auto, unfolding(crate::specs::Expressions::finished))]
+pub fn finished(alloc: Global, reader: Reader) -> Result<Option<Ast>, NoMemory>
+    ensures { IfOk result (λ value. value ≡ spec.finished reader) }
+{
+    let Reader { mode, frames, .. } = reader;
+    match mode {
+        Mode::Complete(value, level) => whole(alloc, value, level, frames),
+        Mode::Named(name) => whole(alloc, column(None, name), WHOLE_LEVEL, frames),
+        _ => Ok(None),
+    }
+}

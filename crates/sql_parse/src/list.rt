@@ -1,0 +1,71 @@
+//! Parts that may be missing, and lists.
+
+ghost use Rattle.std.specs.Prelude.{◌≡◌};
+ghost use Rattle.sql_parse.specs.Reading as spec;
+ghost use Rattle.sql_parse.specs.Reading.{Reads};
+
+use crate::cursor::Cursor;
+use crate::stop::Stop;
+use sql_ast::Many;
+use sql_lex::{Keyword, Symbol};
+use std::alloc::Global;
+
+/// A part of a statement that can stand in a list, or be missing.
+pub trait Part: Drop {
+    ghost use Rattle.std.specs.Prelude.{List, Result};
+    ghost use Rattle.sql_lex.specs.declared.token.TokenKind.{TokenKind};
+    ghost use Rattle.sql_parse.specs.declared.stop.Stop.{Stop};
+    ghost use Rattle.sql_parse.specs.Reading.{Reads};
+
+    ghost reader: { List TokenKind → Result (Self × List TokenKind) Stop };
+
+    /// Reads the part that the tokens begin with.
+    fn read(alloc: Global, cursor: &mut Cursor<'_>) -> Result<Self, Stop>
+    where
+        Self: Sized,
+        ensures { Reads (reader cursor.old) result cursor.new };
+}
+
+/// The part that the keyword introduces, if that comes next.
+pub fn read_after<T: Part>(
+    alloc: Global,
+    cursor: &mut Cursor<'_>,
+    keyword: Keyword,
+) -> Result<Option<T>, Stop>
+    ensures { Reads (spec.after keyword T.reader cursor.old) result cursor.new }
+{
+    if !cursor.eat_keyword(keyword) {
+        return Ok(None);
+    }
+    Ok(Some(T::read(alloc, cursor)?))
+}
+
+/// One part or more, with commas between them.
+pub fn read_separated<T: Part>(alloc: Global, cursor: &mut Cursor<'_>) -> Result<Many<T>, Stop>
+    ensures { Reads (spec.separated T.reader cursor.old) result cursor.new }
+{
+    let mut parts = Vec::new(alloc);
+    parts.push(T::read(alloc, cursor)?)?;
+    for _turn in 0..cursor.left() {
+        if !cursor.eat_symbol(Symbol::Comma) {
+            break;
+        }
+        parts.push(T::read(alloc, cursor)?)?;
+    }
+    Ok(Many::new(parts))
+}
+
+/// The list that the keyword and BY introduce, if the keyword comes next.
+pub fn read_clause<T: Part>(
+    alloc: Global,
+    cursor: &mut Cursor<'_>,
+    keyword: Keyword,
+) -> Result<Many<T>, Stop>
+    ensures { Reads (spec.clause keyword T.reader cursor.old) result cursor.new }
+{
+    if !cursor.eat_keyword(keyword) {
+        return Ok(Many::new(Vec::new(alloc)));
+    }
+    cursor.expect_keyword(Keyword::KBy)?;
+    read_separated(alloc, cursor)
+}

@@ -1,0 +1,65 @@
+//! Parses a text.
+
+ghost use Rattle.std.specs.Prelude.{◌≡◌, ◌⊎◌, ◌<◌, ◌^◌, length, Ok, Err, IfOk, IfErr, MatchResult};
+ghost use Rattle.sql_parse.specs.Parsing as spec;
+ghost use Rattle.sql_parse.specs.Parsing.{parsed};
+ghost use Rattle.sql_parse.specs.Refusals.{IsTextOf, IsRefused};
+
+use crate::fault::ParseFault;
+use crate::statement::read_whole;
+use crate::stop::Stop;
+use sql_ast::Statement;
+use sql_lex::{LexFault, Token, lex};
+use std::alloc::Global;
+
+// The place of the token from which on so many are left, and the text's end where none is.
+fn place_of(end: u32, tokens: &[Token], left: usize) -> u32
+    ensures { result ≡ spec.place_of end tokens.now left }
+{
+    match tokens.get(tokens.len().saturating_sub(left)) {
+        Some(token) => token.from,
+        None => end,
+    }
+}
+
+// The fault of the text where its tokens stop being a statement.
+fn fault_of(end: u32, tokens: &[Token], stop: Stop) -> ParseFault
+    ensures { result ≡ spec.fault_of end tokens.now stop }
+{
+    match stop {
+        Stop::Stuck(left) => ParseFault::BadSyntax(place_of(end, tokens, left)),
+        Stop::Deep(left) => ParseFault::TooDeep(place_of(end, tokens, left)),
+        Stop::NoMemory => ParseFault::NoMemory,
+    }
+}
+
+// The fault of a text that is no tokens.
+fn text_fault(fault: LexFault) -> ParseFault
+    ensures { result ≡ spec.text_fault fault }
+{
+    match fault {
+        LexFault::BadText(at) => ParseFault::BadText(at),
+        LexFault::NoMemory => ParseFault::NoMemory,
+    }
+}
+
+/// Parses a text of less than 2 ^ 32 bytes: the statement that it spells, or the first fault. A fault of
+/// its tokens comes before any other. Takes time that grows as the text's length.
+#[tactic(auto, unfolding(crate::specs::Parsing::parsed), using(crate::proofs::TextRefusals::texts_spelled, crate::proofs::TextRefusals::texts_refused))]
+pub fn parse(alloc: Global, text: &str) -> Result<Statement, ParseFault>
+    requires { length text.now < 2 ^ 32 }
+    ensures exact { MatchResult result
+        (λ statement. parsed text.now ≡ Ok statement)
+        (λ fault. (fault ≡ ParseFault.NoMemory) ⊎ (parsed text.now ≡ Err fault)) }
+    ensures spelled { IfOk result (λ statement. IsTextOf text.now statement) }
+    ensures refused { IfErr result (λ fault. (fault ≡ ParseFault.NoMemory) ⊎ IsRefused text.now fault) }
+{
+    let tokens = match lex(alloc, text) {
+        Ok(tokens) => tokens,
+        Err(fault) => return Err(text_fault(fault)),
+    };
+    match read_whole(alloc, tokens.as_slice()) {
+        Ok(statement) => Ok(statement),
+        Err(stop) => Err(fault_of(text.len() as u32, tokens.as_slice(), stop)),
+    }
+}

@@ -1,0 +1,103 @@
+//! All statements.
+
+ghost use Rattle.std.specs.Prelude.{◌≡◌, ◌⊎◌, ◌∷◌, List, Ok, Err, MatchResult};
+ghost use Rattle.sql_lex.specs.declared.token.TokenKind.{TokenKind};
+ghost use Rattle.sql_parse.specs.Parsing.{kinds_of};
+ghost use Rattle.sql_parse.specs.Reading as spec;
+ghost use Rattle.sql_parse.specs.Reading.{Reads};
+
+use crate::cursor::Cursor;
+use crate::names::read_number;
+use crate::query::read_select;
+use crate::stop::Stop;
+use crate::writes::{read_delete, read_insert, read_update};
+use sql_ast::Statement;
+use sql_lex::{Keyword, Token, TokenKind};
+use std::alloc::Global;
+
+// What stands behind the word BEGIN.
+#[tactic(auto, unfolding(crate::specs::Reading::begin))]
+fn read_begin(cursor: &mut Cursor<'_>) -> Result<Statement, Stop>
+    ensures { Reads (spec.begin cursor.old) result cursor.new }
+{
+    if !cursor.eat_keyword(Keyword::KAs) {
+        return Ok(Statement::Begin);
+    }
+    cursor.expect_keyword(Keyword::KOf)?;
+    cursor.expect_keyword(Keyword::KEpoch)?;
+    Ok(Statement::BeginAsOf(read_number(cursor)?))
+}
+
+// The statement that this keyword begins, which comes next.
+#[tactic(auto, unfolding(crate::specs::Reading::begins, crate::specs::Reading::keyword))]
+fn read_by_keyword(
+    alloc: Global,
+    cursor: &mut Cursor<'_>,
+    keyword: Keyword,
+) -> Result<Statement, Stop>
+    requires { (more : List TokenKind) × (cursor.old ≡ TokenKind.Keyword keyword ∷ more) }
+    ensures { Reads (spec.statement_by (TokenKind.Keyword keyword) cursor.old) result cursor.new }
+{
+    match keyword {
+        Keyword::KSelect => {
+            cursor.skip();
+            Ok(Statement::Select(read_select(alloc, cursor)?))
+        }
+        Keyword::KInsert => {
+            cursor.skip();
+            Ok(Statement::Insert(read_insert(alloc, cursor)?))
+        }
+        Keyword::KUpdate => {
+            cursor.skip();
+            Ok(Statement::Update(read_update(alloc, cursor)?))
+        }
+        Keyword::KDelete => {
+            cursor.skip();
+            Ok(Statement::Delete(read_delete(alloc, cursor)?))
+        }
+        Keyword::KBegin => {
+            cursor.skip();
+            read_begin(cursor)
+        }
+        Keyword::KCommit => {
+            cursor.skip();
+            Ok(Statement::Commit)
+        }
+        Keyword::KRollback => {
+            cursor.skip();
+            Ok(Statement::Rollback)
+        }
+        Keyword::KExplain => {
+            cursor.skip();
+            cursor.expect_keyword(Keyword::KSelect)?;
+            Ok(Statement::Explain(read_select(alloc, cursor)?))
+        }
+        _ => Err(cursor.refuse()),
+    }
+}
+
+// Reads a statement.
+#[tactic(auto, unfolding(crate::specs::Reading::statement))]
+fn read_statement(alloc: Global, cursor: &mut Cursor<'_>) -> Result<Statement, Stop>
+    ensures { Reads (spec.statement cursor.old) result cursor.new }
+{
+    match cursor.peek() {
+        Some(TokenKind::Keyword(keyword)) => read_by_keyword(alloc, cursor, *keyword),
+        _ => Err(cursor.refuse()),
+    }
+}
+
+/// Reads the statement that all the tokens are.
+#[tactic(auto, unfolding(crate::specs::Reading::whole))]
+pub fn read_whole(alloc: Global, tokens: &[Token]) -> Result<Statement, Stop>
+    ensures { MatchResult result
+        (λ statement. spec.whole (kinds_of tokens.now) ≡ Ok statement)
+        (λ stop. (stop ≡ Stop.NoMemory) ⊎ (spec.whole (kinds_of tokens.now) ≡ Err stop)) }
+{
+    let mut cursor = Cursor::new(tokens);
+    let statement = read_statement(alloc, &mut cursor)?;
+    if cursor.left() > 0 {
+        return Err(cursor.refuse());
+    }
+    Ok(statement)
+}
