@@ -1,0 +1,14 @@
+use Rattle.std.proofs.Common.{ap, sym, ◌∙◌, refl}
+use Rattle.geo_schema.specs.Schemas.{schema_fault}
+use Rattle.geo_script.specs.Answers.{spoken, number_after}
+use Rattle.geo_script.specs.Scripts.{head_of}
+use Rattle.geo_script.proofs.SchemaTables.{no_tables}
+use Rattle.geo_script.proofs.reading.declared.read_tables.Goals as goal
+
+pub loop-next-init : goal.loop-next-init
+loop-next-init c = record {
+  read = ap (λ tables. head_of (number_after c.args.rest) tables (spoken c.args.rest)) (sym c.new-tables.ensures.items);
+  number = refl;
+  schema = ap schema_fault c.new-tables.ensures.items ∙ no_tables;
+  room = c.requires;
+}

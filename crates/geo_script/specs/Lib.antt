@@ -1,0 +1,11 @@
+pub mod Lines
+pub mod Words
+pub mod Verbs
+pub mod Past
+pub mod EventLines
+pub mod Marks
+pub mod TableLines
+pub mod Scripts
+pub mod Spelling
+pub mod Answers
+pub mod Faults

@@ -1,0 +1,196 @@
+-- What a line that declares a table or an index makes of the tables above it.
+use Rattle.std.specs.Prelude.{ℕ, ◌+◌, ◌==◌, true, false, nat_le, if◌then◌else◌, is_none, List, [], ◌∷◌, ◌++◌, length, map, codes, position, slice_set, Option, Some, None, option_and_then, ok_or, Ok, Err, ℤ, pos, negsuc}
+use Rattle.std.specs.List.{slice_split}
+use Rattle.std.specs.Option.{option_map}
+use Rattle.std.specs.Str.{bytes_eq, is_utf8}
+use Rattle.geo_base.specs.declared.limits.TheConstants.{MAX_TEXT_BYTES, MAX_COLUMNS}
+use Rattle.geo_base.specs.Order.{text_eq}
+use Rattle.geo_schema.specs.declared.column.ColumnDef.{ColumnDef}
+use Rattle.geo_schema.specs.declared.column.Kind.{Kind}
+use Rattle.geo_schema.specs.declared.column.Kind.TheVariants as kind
+use Rattle.geo_schema.specs.declared.index.IndexDef.{IndexDef}
+use Rattle.geo_schema.specs.declared.table.TableDef.{TableDef}
+use Rattle.geo_schema.specs.Schemas.{schema_fault, number_of, table_at}
+use Rattle.geo_script.specs.declared.column.Column.{Column}
+use Rattle.geo_script.specs.declared.column.Typed.{Typed}
+use Rattle.geo_script.specs.declared.fault.ScriptKind.{ScriptKind}
+use Rattle.geo_script.specs.declared.fault.ScriptKind.TheVariants.{NotUtf8, BadTable, BadIndex, BadLine}
+use Rattle.geo_script.specs.declared.mark.Mark.{Mark}
+use Rattle.geo_script.specs.declared.mark.Mark.TheVariants as mark
+use Rattle.geo_script.specs.EventLines.{Read}
+use Rattle.geo_script.specs.Marks.{marks_of, is_comma, is_close}
+use Rattle.geo_script.specs.Words.{◌>>=◌, cut}
+
+-- ---- columns
+
+-- a kind, and what may stand behind it: `NOT NULL`, then `KEY`
+unfoldable pub typed : Kind → List Mark → Option Typed
+typed kind [] = Some (record { kind = kind; not_null = false; is_key = false })
+typed kind (mark.Key ∷ []) = Some (record { kind = kind; not_null = false; is_key = true })
+typed kind (mark.Not ∷ mark.Null ∷ []) = Some (record { kind = kind; not_null = true; is_key = false })
+typed kind (mark.Not ∷ mark.Null ∷ mark.Key ∷ []) = Some (record { kind = kind; not_null = true; is_key = true })
+typed kind _ = None
+
+-- a text column of at most so many bytes, if it may take so many
+abbrev pub sized : ℤ → List Mark → Option Typed
+sized (pos max) marks = if nat_le max MAX_TEXT_BYTES then typed (kind.Text max) marks else None
+sized (negsuc _) marks = None
+
+-- behind TEXT: a number of bytes in parentheses, and else the most that there may be
+unfoldable pub text_column : List Mark → Option Typed
+text_column (mark.Open ∷ mark.Number max ∷ mark.Close ∷ marks) = sized max marks
+text_column marks = typed (kind.Text MAX_TEXT_BYTES) marks
+
+-- what stands behind a column's name
+unfoldable pub typed_column : List Mark → Option Typed
+typed_column (mark.Int ∷ marks) = typed kind.Int marks
+typed_column (mark.Text ∷ marks) = text_column marks
+typed_column (mark.Bool ∷ marks) = typed kind.Truth marks
+typed_column _ = None
+
+abbrev pub named_column : List ℕ → Typed → Column
+named_column name typed =
+    record { def = record { name = name; kind = typed.kind; not_null = typed.not_null }; is_key = typed.is_key }
+
+-- a column: its name, its type, and what may stand behind it
+unfoldable pub column_of : List Mark → Option Column
+column_of (mark.Name name ∷ marks) = option_map (named_column name) (typed_column marks)
+column_of _ = None
+
+-- ---- lists in parentheses, with commas between their items
+
+-- what stands before the last mark, if that closes a parenthesis
+abbrev pub before_close : List Mark → Option (List Mark)
+before_close [] = None
+before_close (last ∷ []) = if is_close last then Some [] else None
+before_close (first ∷ next ∷ marks) = option_map (λ before. first ∷ before) (before_close (next ∷ marks))
+
+-- the items of a list in parentheses
+unfoldable pub listed : List Mark → Option (List (List Mark))
+listed (mark.Open ∷ marks) = option_map (slice_split is_comma) (before_close marks)
+listed _ = None
+
+-- every item, if each one is as it has to be
+abbrev pub each : {A B : Type 0} → (A → Option B) → List A → Option (List B)
+each of [] = Some []
+each of (item ∷ items) = option_and_then (λ first. option_map (λ more. first ∷ more) (each of items)) (of item)
+
+-- ---- tables
+
+-- the places of the columns that are of the key, where the first column stands at the place
+abbrev pub key_places : ℕ → List Column → List ℕ
+key_places place [] = []
+key_places place (column ∷ columns) =
+    if column.is_key then place ∷ key_places (place + 1) columns else key_places (place + 1) columns
+
+abbrev pub table_with : List ℕ → List Column → TableDef
+table_with name columns =
+    record { name = name; columns = map (λ column. column.def) columns; key = key_places 0 columns; indexes = [] }
+
+-- the columns, of which there may be at most 32
+unfoldable pub columns_of : List (List Mark) → Option (List Column)
+columns_of items = if nat_le (length items) MAX_COLUMNS then each column_of items else None
+
+-- a table: its name, and its columns in parentheses
+unfoldable pub table_of : List Mark → Option TableDef
+table_of (mark.Name name ∷ marks) = option_map (table_with name) (option_and_then columns_of (listed marks))
+table_of _ = None
+
+-- the tables, if they are a schema
+abbrev pub if_schema : ScriptKind → List TableDef → Read (List TableDef)
+if_schema kind tables = if is_none (schema_fault tables) then Ok tables else Err kind
+
+-- the tables with the one that a text declares
+unfoldable pub with_table : List TableDef → List ℕ → Read (List TableDef)
+with_table tables text = do
+  table ← ok_or (option_and_then table_of (marks_of text)) BadTable
+  if_schema BadTable (tables ++ table ∷ [])
+
+-- ---- indexes
+
+-- a name alone
+unfoldable pub name_of : List Mark → Option (List ℕ)
+name_of (mark.Name name ∷ []) = Some name
+name_of _ = None
+
+-- the name that the word is
+unfoldable pub index_name : List ℕ → Option (List ℕ)
+index_name word = option_and_then (λ name. if bytes_eq name word then Some name else None) (option_and_then name_of (marks_of word))
+
+-- a table's name, and names in parentheses
+unfoldable pub named_list : List Mark → Option (List ℕ × List (List ℕ))
+named_list (mark.Name name ∷ marks) = option_map (λ names. (name, names)) (option_and_then (each name_of) (listed marks))
+named_list _ = None
+
+-- the place of the column with a name
+abbrev pub column_place : List ColumnDef → List ℕ → Option ℕ
+column_place columns name = position (λ column. text_eq column.name name) columns
+
+-- A word and what stands behind the next space. An empty word is no word of any line.
+abbrev pub filled : List ℕ → Option (List ℕ × List ℕ) → Read (List ℕ × List ℕ)
+filled text None = if length text == 0 then Err BadLine else Err BadIndex
+filled text (Some parts) = if length parts.0 == 0 then Err BadLine else Ok parts
+
+unfoldable pub first_word : List ℕ → Read (List ℕ × List ℕ)
+first_word text = filled text (cut 32 text)
+
+-- an index's name, and what stands behind a space, `on` and a space
+unfoldable pub index_parts : List ℕ → Read (List ℕ × List ℕ)
+index_parts text = do
+  parts ← first_word text
+  more ← first_word parts.1
+  if bytes_eq more.0 (codes "on") then Ok (parts.0, more.1) else Err BadIndex
+
+-- the tables, where the one with this number has an index more
+abbrev pub add_index : List TableDef → ℕ → IndexDef → List TableDef
+add_index tables at index =
+    slice_set tables at (record (table_at tables at) { indexes = (table_at tables at).indexes ++ index ∷ [] })
+
+-- the index with a name, of the columns at these places
+abbrev pub index_with : List ℕ → List ℕ → IndexDef
+index_with name places = record { name = name; columns = places }
+
+-- the index with a name on a table and its columns, which are listed, and the number of that table
+abbrev pub index_on : List TableDef → List ℕ → List (List ℕ) → ℕ → Option (ℕ × IndexDef)
+index_on tables name names at =
+    option_map (λ index. (at, index)) (option_map (index_with name) (each (column_place (table_at tables at).columns) names))
+
+unfoldable pub index_at : List TableDef → List ℕ → List ℕ → Option (ℕ × IndexDef)
+index_at tables name text =
+    option_and_then (λ list. option_and_then (index_on tables name list.1) (number_of tables list.0)) (option_and_then named_list (marks_of text))
+
+-- the index with the name that the word is, and the number of its table
+unfoldable pub index_of : List TableDef → List ℕ → List ℕ → Option (ℕ × IndexDef)
+index_of tables word text = option_and_then (λ name. index_at tables name text) (index_name word)
+
+-- the tables with the index that a text declares
+unfoldable pub with_index : List TableDef → List ℕ → Read (List TableDef)
+with_index tables text = do
+  parts ← index_parts text
+  found ← ok_or (index_of tables parts.0 parts.1) BadIndex
+  if_schema BadIndex (add_index tables found.0 found.1)
+
+-- ---- whole lines
+
+-- the line, if it has one word alone, which has to begin a longer one
+abbrev pub alone : List ℕ → Read (List TableDef)
+alone line =
+    if bytes_eq line (codes "table") then Err BadTable else (if bytes_eq line (codes "index") then Err BadIndex else Err BadLine)
+
+-- the tables with what a line declares, by its first word and what stands behind the next space
+abbrev pub declared : List TableDef → List ℕ → List ℕ → Read (List TableDef)
+declared tables word rest =
+    if bytes_eq word (codes "table") then with_table tables rest
+    else (if bytes_eq word (codes "index") then with_index tables rest else Err BadLine)
+
+abbrev pub by_word : List TableDef → List ℕ → Option (List ℕ × List ℕ) → Read (List TableDef)
+by_word tables line None = alone line
+by_word tables line (Some parts) = declared tables parts.0 parts.1
+
+-- the tables with what a text declares
+unfoldable pub declared_by : List TableDef → List ℕ → Read (List TableDef)
+declared_by tables text = by_word tables text (cut 32 text)
+
+-- the tables with what a line declares, which has to be a text
+unfoldable pub table_line : List TableDef → List ℕ → Read (List TableDef)
+table_line tables line = if is_utf8 line then declared_by tables line else Err NotUtf8

@@ -1,0 +1,86 @@
+ghost use Rattle.std.specs.Prelude.{◌≡◌};
+ghost use Rattle.geo_script.specs.declared.fault.ReadFault.TheVariants as read_fault;
+
+use geo_base::NoMemory;
+use std::alloc::{AllocError, AllocFailed};
+
+/// What is wrong with a line of a script.
+#[derive(Clone, Copy, Debug, PartialEq, Eq)]
+pub enum ScriptKind {
+    /// The script has more than [`geo_base::limits::SCRIPT_BYTES`] bytes; the line is 0.
+    TooLong,
+    /// The line is no UTF-8.
+    NotUtf8,
+    /// Line 1 doesn't name the form that is wanted, line 2 isn't `regions` and one more word, or one of the
+    /// two is missing.
+    BadHeader,
+    /// A `table` line that spells no table, or one that can't stand beside the tables above it.
+    BadTable,
+    /// An `index` line that spells no index, or none that a table above it can have.
+    BadIndex,
+    /// There is no line `begin`; the line is the one after the last.
+    MissingBegin,
+    /// There is no such line at this place: another first word, a wrong number of words, or a second crash of
+    /// a region in a run.
+    BadLine,
+    /// A number is misspelt or out of its range.
+    BadNumber,
+    /// A statement of more than [`crate::limits::STATEMENT_BYTES`] bytes.
+    LongStatement,
+    /// The line is of one session more than a run may have.
+    TooManySessions,
+}
+
+/// The first bad line of a script, counted from 1, and what is wrong with it.
+#[derive(Clone, Copy, Debug, PartialEq, Eq)]
+pub struct ScriptFault {
+    pub line: u32,
+    pub kind: ScriptKind,
+}
+
+/// Why no script was read.
+#[derive(Clone, Copy, Debug, PartialEq, Eq)]
+pub enum ReadFault {
+    /// The bytes are no script.
+    Script(ScriptFault),
+    NoMemory,
+}
+
+impl From<NoMemory> for ReadFault {
+    ghost from_gives = { λ _ fault. fault ≡ read_fault.NoMemory };
+
+    fn from(_e: NoMemory) -> ReadFault {
+        ReadFault::NoMemory
+    }
+}
+
+impl From<AllocError> for ReadFault {
+    ghost from_gives = { λ _ fault. fault ≡ read_fault.NoMemory };
+
+    fn from(_e: AllocError) -> ReadFault {
+        ReadFault::NoMemory
+    }
+}
+
+impl<T: Drop> From<AllocFailed<T>> for ReadFault {
+    ghost from_gives = { λ _ fault. fault ≡ read_fault.NoMemory };
+
+    fn from(_e: AllocFailed<T>) -> ReadFault {
+        ReadFault::NoMemory
+    }
+}
+
+impl From<ScriptFault> for ReadFault {
+    ghost from_gives = { λ e fault. fault ≡ read_fault.Script e };
+
+    fn from(e: ScriptFault) -> ReadFault {
+        ReadFault::Script(e)
+    }
+}
+
+/// The line with this number is the first bad one.
+pub fn bad(line: u32, kind: ScriptKind) -> ReadFault
+    ensures { result ≡ read_fault.Script (record { line = line; kind = kind }) }
+{
+    ReadFault::Script(ScriptFault { line, kind })
+}
