@@ -308,6 +308,12 @@ cut_is_tokens text tokens cut =
     let place : length text + 0 ≡ 0 + length text = omega arith in
     cut_answer tokens 0 (length text) text [] cut place ∙ ap (joined tokens) (at_end (length text)) ∙ ap Ok (append-nil tokens)
 
+pub no_other_tokens : (text : List ℕ) (tokens found : List Token) → AreTokensOf tokens text → tokens_of text ≡ Ok found → found ≡ tokens
+no_other_tokens text tokens found cut e = let same : tokens_of text ≡ Ok tokens = cut_is_tokens text tokens cut in cc
+
+pub no_fault : (text : List ℕ) (tokens : List Token) (fault : LexFault) → AreTokensOf tokens text → tokens_of text ≡ Err fault → ⊥
+no_fault text tokens fault cut e = let same : tokens_of text ≡ Ok tokens = cut_is_tokens text tokens cut in cc
+
 pub fault_stops : (text : List ℕ) (fault : LexFault) → tokens_of text ≡ Err fault → (at : ℕ) × (fault ≡ BadText at) × StopsAt text at
 unfolding tokens_of
 fault_stops text fault e =

@@ -1,6 +1,7 @@
 pub mod Fronts
 pub mod WordBytes
 pub mod Quotes
+pub mod Keywords
 pub mod Spellings
 pub mod Taken
 pub mod Cuts

@@ -2,10 +2,8 @@
 use Rattle.std.proofs.Common.{◌≡◌, ◌<◌, ◌≤◌, ◌+◌, ◌^◌, ◌==◌, ℕ, zero, suc, pos, Bool, true, false, cond, List, [], ◌∷◌, ◌++◌, length, take, drop, get_or, Option, Some, None, option_map, nat_le, nat_lt, refl, sym, ap, ◌∙◌, subst, arith, length-take-le, length-append, take-append-drop, get_or-drop, add-zero, append_assoc, eqb-true, false-eqb, ⊎_elim}
 use Rattle.std.proofs.lemmas.Bool.Decides.{nat_tests}
 use Rattle.std.proofs.lemmas.List.Sums.{prefix_len-le-length}
-use Rattle.std.proofs.lemmas.Slice.Eq.{bytes_eq-Decides}
 use Rattle.std.specs.Char.{is_ascii_digit}
 use Rattle.std.specs.List.{prefix_len}
-use Rattle.std.specs.Str.{str_eq_ignore_ascii_case, str_to_ascii_lowercase, bytes_eq}
 use Rattle.std.specs.Str.Parse.{digits_value}
 use Rattle.geo_base.specs.declared.limits.TheConstants.{MAX_TEXT_BYTES}
 use Rattle.geo_base.specs.declared.limits.TheConstants.{MAX_NAME_BYTES}
@@ -16,10 +14,11 @@ use Rattle.sql_lex.specs.declared.symbol.Symbol.{Symbol}
 use Rattle.sql_lex.specs.declared.symbol.Symbol.TheVariants as symbol
 use Rattle.sql_lex.specs.Symbols.{symbol_bytes, after_less, after_more, single, symbol_of}
 use Rattle.sql_lex.specs.Bytes.{begins_word, is_in_word}
-use Rattle.sql_lex.specs.Keywords.{keywords, lookup, keyword_of}
+use Rattle.sql_lex.specs.Keywords.{keyword_of}
 use Rattle.sql_lex.specs.Quoted.{content, if_short}
 use Rattle.sql_lex.specs.Pieces.{piece, piece_of, word_piece, word_kind, kind_by, integer_piece, text_piece, symbol_piece}
-use Rattle.sql_lex.specs.Grammar.{IsWord, IsKeyword, doubled, Spells, Lengthens, EndsAt}
+use Rattle.sql_lex.specs.Grammar.{IsWord, doubled, Spells, Lengthens, EndsAt}
+use Rattle.sql_lex.proofs.Keywords.{keyword_found, no_keyword_found}
 use Rattle.sql_lex.proofs.Fronts.{passing, stopping, nonempty}
 use Rattle.sql_lex.proofs.WordBytes.{begins-in_word, outside_words, zero-no_word}
 use Rattle.sql_lex.proofs.Quotes.{closes}
@@ -32,73 +31,6 @@ pub record IsAtFront (bytes : List ℕ) (p : Piece) : Type 0 where
   pub len : p.len ≡ length piece
   pub spells : Spells p.kind piece
   pub ends : EndsAt p.kind more
-
--- ---- keywords
-
--- the table has an entry that is the word
-abbrev pub IsIn : List (List ℕ × Keyword) → List ℕ → Keyword → Type 0
-IsIn table word k = (capitals : List ℕ) × ((n : ℕ) × (n < length table) × (get_or table n (capitals, k) ≡ (capitals, k))) × (str_eq_ignore_ascii_case capitals word ≡ true)
-
-pub looked_up : (word : List ℕ) (table : List (List ℕ × Keyword)) (k : Keyword) → lookup table word ≡ Some k → IsIn table word k
-looked_up word [] k e = cc
-looked_up word (entry ∷ table) k e = by (str_eq_ignore_ascii_case entry.0 word) refl e (looked_up word table k)
-  where
-    by : (v : Bool) → str_eq_ignore_ascii_case entry.0 word ≡ v → cond v (Some entry.1) (lookup table word) ≡ Some k → (lookup table word ≡ Some k → IsIn table word k) → IsIn (entry ∷ table) word k
-    by true is found more =
-        let k-is : entry.1 ≡ k = cc in
-        (entry.0, (0, omega arith, λ i. (entry.0, k-is i)), is)
-    by false is found more = let there = more found in (there.0, (suc there.1.0, omega (arith, there.1.1), there.1.2), there.2)
-
-pub not_looked_up : (word : List ℕ) (table : List (List ℕ × Keyword)) (k : Keyword) → lookup table word ≡ None → IsIn table word k → ⊥
-not_looked_up word [] k e there = absurd (omega (arith, there.1.1))
-not_looked_up word (entry ∷ table) k e there = by (str_eq_ignore_ascii_case entry.0 word) refl e (not_looked_up word table k)
-  where
-    at : (capitals : List ℕ) (n : ℕ) → n < suc (length table) → get_or (entry ∷ table) n (capitals, k) ≡ (capitals, k) → str_eq_ignore_ascii_case capitals word ≡ true
-        → str_eq_ignore_ascii_case entry.0 word ≡ false → (IsIn table word k → ⊥) → ⊥
-    at capitals zero within is same other more = cc
-    at capitals (suc n) within is same other more = more (capitals, (n, omega arith, is), same)
-
-    by : (v : Bool) → str_eq_ignore_ascii_case entry.0 word ≡ v → cond v (Some entry.1) (lookup table word) ≡ None → (lookup table word ≡ None → IsIn table word k → ⊥) → ⊥
-    by true is found more = cc
-    by false is found more = at there.0 there.1.0 there.1.1 there.1.2 there.2 is (more found)
-
--- words that differ in case alone are one keyword
-same_lookup : (table : List (List ℕ × Keyword)) (a b : List ℕ) → str_to_ascii_lowercase a ≡ str_to_ascii_lowercase b → lookup table a ≡ lookup table b
-same_lookup [] a b e = refl
-same_lookup (entry ∷ table) a b e = λ i. cond (bytes_eq (str_to_ascii_lowercase entry.0) (e i)) (Some entry.1) (same_lookup table a b e i)
-
--- each entry of these is what its own capitals are looked up as
-IsOwn : List (List ℕ × Keyword) → Type 0
-IsOwn [] = Unit {0}
-IsOwn (entry ∷ table) = (keyword_of entry.0 ≡ Some entry.1) × IsOwn table
-
-each_own : IsOwn keywords
-unfolding IsOwn keywords keyword_of
-each_own = (refl, (refl, (refl, (refl, (refl, (refl, (refl, (refl, (refl, (refl, (refl, (refl, (refl, (refl, (refl, (refl, (refl, (refl, (refl, (refl, (refl, (refl, (refl, (refl, (refl, (refl, (refl, (refl, (refl, (refl, (refl, (refl, (refl, (refl, (refl, (refl, (refl, (refl, (refl, (refl, (refl, tt)))))))))))))))))))))))))))))))))))))))))
-
-own_at : (table : List (List ℕ × Keyword)) (k : Keyword) (capitals : List ℕ) (n : ℕ) → IsOwn table → n < length table → get_or table n (capitals, k) ≡ (capitals, k) → keyword_of capitals ≡ Some k
-unfolding IsOwn
-own_at [] k capitals n own within is = absurd (omega arith)
-own_at (entry ∷ table) k capitals zero own within is = let e : keyword_of entry.0 ≡ Some entry.1 = own.0 in cc
-own_at (entry ∷ table) k capitals (suc n) own within is = own_at table k capitals n own.1 (omega arith) is
-
-pub keyword_found : (word : List ℕ) (k : Keyword) → keyword_of word ≡ Some k → IsKeyword k word
-unfolding keyword_of
-keyword_found word k e = let there = looked_up word keywords k e in record { capitals = there.0; listed = there.1; same = there.2 }
-
-pub no_keyword_found : (word : List ℕ) (k : Keyword) → keyword_of word ≡ None → IsKeyword k word → ⊥
-unfolding keyword_of
-no_keyword_found word k e is = not_looked_up word keywords k e (is.capitals, is.listed, is.same)
-
--- and no other keyword is the word
-same_keyword : (a b : List ℕ) → str_to_ascii_lowercase a ≡ str_to_ascii_lowercase b → keyword_of a ≡ keyword_of b
-unfolding keyword_of
-same_keyword a b e = same_lookup keywords a b e
-
-pub keyword_is : (word : List ℕ) (k : Keyword) → IsKeyword k word → keyword_of word ≡ Some k
-keyword_is word k is =
-    let lower : str_to_ascii_lowercase is.capitals ≡ str_to_ascii_lowercase word = (bytes_eq-Decides (str_to_ascii_lowercase is.capitals) (str_to_ascii_lowercase word)).0 is.same in
-    same_keyword word is.capitals (sym lower) ∙ own_at keywords k is.capitals is.listed.0 each_own is.listed.1 is.listed.2
 
 -- ---- words
 

@@ -14,15 +14,15 @@ use Rattle.sql_lex.specs.declared.token.Piece.{Piece}
 use Rattle.sql_lex.specs.declared.token.TokenKind.{TokenKind}
 use Rattle.sql_lex.specs.declared.token.TokenKind.TheVariants as kind
 use Rattle.sql_lex.specs.Bytes.{begins_word, is_in_word}
-use Rattle.sql_lex.specs.Keywords.{keyword_of}
+use Rattle.sql_lex.specs.Keywords.{IsKeyword, keyword_of}
 use Rattle.sql_lex.specs.Quoted.{if_short, short_content}
 use Rattle.sql_lex.specs.Symbols.{symbol_bytes}
 use Rattle.sql_lex.specs.Pieces.{piece, piece_of, word_piece, word_kind, kind_by, integer_piece, value_of, text_piece, symbol_piece}
-use Rattle.sql_lex.specs.Grammar.{IsWord, IsKeyword, IsNumeral, doubled, Spells, Lengthens, EndsAt}
+use Rattle.sql_lex.specs.Grammar.{IsWord, IsNumeral, doubled, Spells, Lengthens, EndsAt}
 use Rattle.sql_lex.proofs.Fronts.{first_passes, exactly}
 use Rattle.sql_lex.proofs.WordBytes.{digit-begins_no_word, outside-begins_no_word, outside-no_digit}
 use Rattle.sql_lex.proofs.Quotes.{spelled}
-use Rattle.sql_lex.proofs.Spellings.{keyword_found, keyword_is}
+use Rattle.sql_lex.proofs.Keywords.{keyword_found, keyword_is}
 
 pub first_of_append : (xs ys : List ℕ) → 0 < length xs → get_or (xs ++ ys) 0 0 ≡ get_or xs 0 0
 first_of_append [] ys h = absurd (omega arith)

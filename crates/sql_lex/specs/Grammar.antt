@@ -1,8 +1,7 @@
 -- What spells a token, and what a text is that is cut into tokens.
-use Rattle.std.specs.Prelude.{◌≡◌, ◌≢◌, ◌<◌, ◌≤◌, ◌⊎◌, ◌^◌, ◌+◌, ◌==◌, ℕ, true, false, List, [], ◌∷◌, ◌++◌, length, slice_index, slice_range, if◌then◌else◌, Contains, pos}
+use Rattle.std.specs.Prelude.{◌≡◌, ◌≢◌, ◌<◌, ◌≤◌, ◌⊎◌, ◌^◌, ◌+◌, ◌==◌, ℕ, true, false, List, [], ◌∷◌, ◌++◌, length, slice_index, slice_range, if◌then◌else◌, pos}
 use Rattle.std.specs.Char.{is_ascii_digit}
 use Rattle.std.specs.List.{list_all}
-use Rattle.std.specs.Str.{str_eq_ignore_ascii_case}
 use Rattle.std.specs.Str.Parse.{digits_value}
 use Rattle.geo_base.specs.declared.limits.TheConstants.{MAX_TEXT_BYTES, MAX_NAME_BYTES}
 use Rattle.sql_lex.specs.declared.keyword.Keyword.{Keyword}
@@ -12,7 +11,7 @@ use Rattle.sql_lex.specs.declared.token.Token.{Token}
 use Rattle.sql_lex.specs.declared.token.TokenKind.{TokenKind}
 use Rattle.sql_lex.specs.declared.token.TokenKind.TheVariants as kind
 use Rattle.sql_lex.specs.Bytes.{is_blank, begins_word, is_in_word}
-use Rattle.sql_lex.specs.Keywords.{keywords}
+use Rattle.sql_lex.specs.Keywords.{IsKeyword}
 use Rattle.sql_lex.specs.Symbols.{symbol_bytes}
 
 -- ---- what spells a token
@@ -23,12 +22,6 @@ pub record IsWord (bytes : List ℕ) : Type 0 where
   pub few : length bytes ≤ MAX_NAME_BYTES
   pub first : begins_word (slice_index bytes 0) ≡ true
   pub rest : list_all is_in_word bytes ≡ true
-
--- the word is this keyword, in any mix of case
-pub record IsKeyword (keyword : Keyword) (word : List ℕ) : Type 0 where
-  pub capitals : List ℕ
-  pub listed : Contains keywords (capitals, keyword)
-  pub same : str_eq_ignore_ascii_case capitals word ≡ true
 
 -- digits that write this number, which is below 2 ^ 63
 pub record IsNumeral (value : ℕ) (bytes : List ℕ) : Type 0 where

@@ -50,8 +50,8 @@ pub enum Keyword {
     KUnique,
 }
 
-/// The word of each keyword, in capitals.
-pub const KEYWORDS: [(&[u8], Keyword); 41] = [
+// The word of each keyword, in capitals.
+const KEYWORDS: [(&[u8], Keyword); 41] = [
     (b"SELECT", Keyword::KSelect),
     (b"INSERT", Keyword::KInsert),
     (b"INTO", Keyword::KInto),

@@ -3,6 +3,8 @@
 ghost use Rattle.std.specs.Prelude.{◌≡◌, ◌↔◌, ℕ, List};
 ghost use Rattle.sql_lex.specs.declared.token.Token.{Token};
 ghost use Rattle.sql_lex.specs.declared.token.LexFault.{LexFault};
+ghost use Rattle.sql_lex.specs.declared.keyword.Keyword.{Keyword};
+ghost use Rattle.sql_lex.specs.Keywords.{IsKeyword, keyword_of};
 ghost use Rattle.sql_lex.specs.Tokens.{tokens_of};
 ghost use Rattle.sql_lex.specs.Grammar.{AreSlicesFrom, AreTokensOf, StopsAt};
 
@@ -25,4 +27,11 @@ pub fn faults_are_where_no_token_begins()
         (tokens_of text ≡ Err (LexFault.BadText at)) ↔ StopsAt text at }
     ensures alone { (text : List ℕ) (fault : LexFault) →
         tokens_of text ≡ Err fault → (at : ℕ) × (fault ≡ LexFault.BadText at) }
+{}
+
+/// The keyword that is found for a word is the one whose word in capitals it is, in any mix of case:
+/// one is found wherever there is such a keyword, and no other one.
+pub fn keywords_are_their_words()
+    ensures { (word : List ℕ) (keyword : Keyword) →
+        (keyword_of word ≡ Some keyword) ↔ IsKeyword keyword word }
 {}

@@ -19,8 +19,11 @@ mod token;
 mod tokens;
 mod word;
 
-pub use keyword::{KEYWORDS, Keyword};
-pub use laws::{faults_are_where_no_token_begins, tokens_are_slices, tokens_are_the_text};
+pub use keyword::Keyword;
+pub use laws::{
+    faults_are_where_no_token_begins, keywords_are_their_words, tokens_are_slices,
+    tokens_are_the_text,
+};
 pub use symbol::Symbol;
 pub use token::{LexFault, Token, TokenKind};
 pub use tokens::lex;

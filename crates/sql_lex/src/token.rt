@@ -41,6 +41,7 @@ pub struct Piece {
 pub enum LexFault {
     /// The place of the first byte where a token would have to begin and none does.
     BadText(u32),
+    /// There was no memory for the tokens. It says nothing of the text.
     NoMemory,
 }
 

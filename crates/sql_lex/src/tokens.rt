@@ -1,6 +1,7 @@
 //! Cuts a text into its tokens.
 
-ghost use Rattle.std.specs.Prelude.{◌≡◌, ◌⊎◌, ◌<◌, ◌^◌, ℕ, length, IfOk, IfErr, MatchResult};
+ghost use Rattle.std.specs.Prelude.{◌≡◌, ◌⊎◌, ◌<◌, ◌^◌, ℕ, List, length, IfOk, IfErr, MatchResult};
+ghost use Rattle.sql_lex.specs.declared.token.Token.{Token};
 ghost use Rattle.sql_lex.specs.Pieces as spec;
 ghost use Rattle.sql_lex.specs.Grammar.{AreTokensOf, StopsAt};
 ghost use Rattle.sql_lex.specs.Tokens.{tokens_of};
@@ -63,14 +64,15 @@ fn cut_text(alloc: Global, text: &str) -> Result<Vec<Token>, LexFault>
     Ok(tokens)
 }
 
-/// Cuts a text into its tokens. The fault is at the first place where a token would have to begin
-/// and none does. Takes time that grows as the text's length.
-#[tactic(auto, using(crate::proofs::Cuts::tokens_are_cut, crate::proofs::Cuts::fault_stops))]
+/// Cuts a text into its tokens, the one way to do so. The fault is at the first place where a token
+/// would have to begin and none does. Takes time that grows as the text's length.
+#[tactic(auto, using(crate::proofs::Cuts::tokens_are_cut, crate::proofs::Cuts::fault_stops, crate::proofs::Cuts::no_other_tokens, crate::proofs::Cuts::no_fault))]
 pub fn lex(alloc: Global, text: &str) -> Result<Vec<Token>, LexFault>
     requires { length text.now < 2 ^ 32 }
     ensures exact { MatchResult result
         (λ tokens. tokens_of text.now ≡ Ok tokens.items)
         (λ fault. (fault ≡ LexFault.NoMemory) ⊎ (tokens_of text.now ≡ Err fault)) }
+    ensures only { (tokens : List Token) → AreTokensOf tokens text.now → MatchResult result (λ found. found.items ≡ tokens) (λ fault. fault ≡ LexFault.NoMemory) }
     ensures cut { IfOk result (λ tokens. AreTokensOf tokens.items text.now) }
     ensures stops { IfErr result (λ fault. (fault ≡ LexFault.NoMemory) ⊎ ((at : ℕ) × (fault ≡ LexFault.BadText at) × StopsAt text.now at)) }
 {
