@@ -36,9 +36,10 @@ fn print_statement(out: &mut String, statement: &Statement) -> Result<(), NoMemo
     Ok(())
 }
 
-/// The canonical text of a statement: keywords in capitals, one space between tokens, and
-/// parentheses at each operator and nowhere else. The time is linear in the text that comes out, and
-/// the stack goes as deep as the statement's deepest expression.
+/// The canonical text of a statement: keywords in capitals, one space between tokens where no comma,
+/// dot or parenthesis takes it away. An expression has parentheses at each operator and nowhere else;
+/// others stand around a list of columns, a row and the argument of an aggregate. The time is linear
+/// in the text that comes out, and the stack goes as deep as the statement's deepest expression.
 pub fn print(alloc: Global, statement: &Statement) -> Result<String, NoMemory>
     ensures { IfOk result (λ s. string_bytes s ≡ texts.printed statement.now) }
 {
