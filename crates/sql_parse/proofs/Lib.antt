@@ -1,3 +1,4 @@
+pub mod ExpressionPhrases
 pub mod ExpressionLaws
 pub mod ExpressionTokens
 pub mod ExpressionSteps

@@ -9,10 +9,11 @@ use Rattle.sql_ast.specs.Printing as printing
 use Rattle.sql_lex.specs.declared.keyword.Keyword.{Keyword}
 use Rattle.sql_lex.specs.declared.keyword.Keyword.TheVariants.{KSelect, KFrom, KWhere, KJoin, KOn, KGroup, KBy, KOrder, KDesc, KLimit, KAs, KCount, KSum, KMin, KMax}
 use Rattle.sql_lex.specs.declared.symbol.Symbol.TheVariants as symbol
+use Rattle.sql_lex.specs.Keywords.{capitals}
 use Rattle.sql_parse.specs.Trees.{Outside, Mark, kinds, Tree, marks, value}
 use Rattle.sql_parse.specs.Forms.{word, sign, number_marks, column_marks, maybe, Several, listed, commas, alias_marks, table_marks, ValueForm, Plain, CountAll, Count, Sum, Min, Max, aggregate_marks, value_marks, value_of, ItemForm, item_marks, item_of, ItemsForm, Star, Listed, items_marks, items_of, JoinForm, join_marks, join_of, filter_marks, listed_if, OrderForm, direction_marks, ordered_marks, ordered_of, SelectForm, query_marks, select_of}
 use Rattle.sql_parse.proofs.PrintedPieces.{Prints, PrintsAlone, opens_by, opens_blank, MayOpen, nothing_opens, blank_opens, loose, behind, behind_alone, after, both, nothing, spaced, indented, indented_alone, lone}
-use Rattle.sql_parse.proofs.PrintedWords.{capitals, keyword, number}
+use Rattle.sql_parse.proofs.PrintedWords.{keyword, number}
 use Rattle.sql_parse.proofs.PrintedTrees.{canonical}
 use Rattle.sql_parse.proofs.PrintedExpressions.{AreSpelled, front_of, rest_of, name_by, number_fits, closed, opening, column_prints, expression_prints}
 use Rattle.sql_parse.proofs.PrintedForms.{several, canonical_value, canonical_item, canonical_items, canonical_join, direction_by, canonical_order, canonical_select}

@@ -9,8 +9,9 @@ use Rattle.sql_lex.specs.declared.token.TokenKind.{TokenKind}
 use Rattle.sql_lex.specs.declared.token.TokenKind.TheVariants as kind
 use Rattle.sql_parse.specs.Kinds.{operator_kind}
 use Rattle.sql_parse.specs.Levels.{left_of, right_of, sign_level}
-use Rattle.sql_parse.specs.Trees.{Mark, Operator, mark, Tree, Int, Negative, Text, Truth, Null, Column, Paren, Minus, Infix, Not, IsNull, level, IsPhrase, column_kinds, marks, value, inside, null_kinds}
+use Rattle.sql_parse.specs.Trees.{Mark, Operator, mark, Tree, Int, Negative, Text, Truth, Null, Column, Paren, Minus, Infix, Not, IsNull, column_kinds, marks, value, inside, null_kinds}
 use Rattle.sql_parse.specs.Grammar.{since_operators, since_openings}
+use Rattle.sql_parse.proofs.ExpressionPhrases.{level, IsPhrase}
 use Rattle.sql_parse.proofs.ExpressionLaws.{Fits}
 
 -- each operator in one pair of parentheses, and no others

@@ -17,57 +17,13 @@ use Rattle.sql_lex.specs.declared.keyword.Keyword.TheVariants.{KSelect, KInsert,
 use Rattle.sql_lex.specs.declared.symbol.Symbol.TheVariants as symbol
 use Rattle.sql_lex.specs.declared.token.TokenKind.TheVariants as kind
 use Rattle.sql_lex.specs.Bytes.{begins_word, is_in_word}
-use Rattle.sql_lex.specs.Keywords.{keywords}
+use Rattle.sql_lex.specs.Keywords.{capitals}
 use Rattle.sql_lex.specs.Grammar.{IsNumeral, doubled, Spells}
 use Rattle.sql_parse.specs.Kinds.{operator_kind}
 use Rattle.sql_parse.specs.Trees.{Role, mark}
 use Rattle.sql_parse.proofs.PrintedPieces.{Prints, token}
 
 -- ---- keywords
-
--- the word of a keyword, in capitals
-abbrev pub capitals : Keyword → List ℕ
-capitals KSelect = codes "SELECT"
-capitals KInsert = codes "INSERT"
-capitals KInto = codes "INTO"
-capitals KValues = codes "VALUES"
-capitals KUpdate = codes "UPDATE"
-capitals KSet = codes "SET"
-capitals KDelete = codes "DELETE"
-capitals KFrom = codes "FROM"
-capitals KWhere = codes "WHERE"
-capitals KJoin = codes "JOIN"
-capitals KOn = codes "ON"
-capitals KGroup = codes "GROUP"
-capitals KBy = codes "BY"
-capitals KOrder = codes "ORDER"
-capitals KAsc = codes "ASC"
-capitals KDesc = codes "DESC"
-capitals KLimit = codes "LIMIT"
-capitals KAs = codes "AS"
-capitals KBegin = codes "BEGIN"
-capitals KOf = codes "OF"
-capitals KEpoch = codes "EPOCH"
-capitals KCommit = codes "COMMIT"
-capitals KRollback = codes "ROLLBACK"
-capitals KExplain = codes "EXPLAIN"
-capitals KAnd = codes "AND"
-capitals KOr = codes "OR"
-capitals KNot = codes "NOT"
-capitals KIs = codes "IS"
-capitals KNull = codes "NULL"
-capitals KTrue = codes "TRUE"
-capitals KFalse = codes "FALSE"
-capitals KCount = codes "COUNT"
-capitals KSum = codes "SUM"
-capitals KMin = codes "MIN"
-capitals KMax = codes "MAX"
-capitals KInt = codes "INT"
-capitals KText = codes "TEXT"
-capitals KBool = codes "BOOL"
-capitals KKey = codes "KEY"
-capitals KFor = codes "FOR"
-capitals KUnique = codes "UNIQUE"
 
 parts : (a b : Bool) → (a && b) ≡ true → (a ≡ true) × (b ≡ true)
 parts true b h = (refl, h)
@@ -78,61 +34,57 @@ abbrev is_word : List ℕ → Bool
 is_word word =
     nat_lt 0 (length word) && (nat_le (length word) MAX_NAME_BYTES && (begins_word (get_or word 0 0) && (list_all is_in_word word && str_eq_ignore_ascii_case word word)))
 
--- the keyword stands at this place in the table
-spelled_at : (i : ℕ) (k : Keyword) → (nat_lt i (length keywords) && is_word (capitals k)) ≡ true → get_or keywords i (capitals k, k) ≡ (capitals k, k) → Spells (kind.Keyword k) (capitals k)
-spelled_at i k tests is =
-    let within = parts (nat_lt i (length keywords)) _ tests in
-    let some = parts (nat_lt 0 (length (capitals k))) _ within.1 in
+word_spelled : (k : Keyword) → is_word (capitals k) ≡ true → Spells (kind.Keyword k) (capitals k)
+word_spelled k tests =
+    let some = parts (nat_lt 0 (length (capitals k))) _ tests in
     let few = parts (nat_le (length (capitals k)) MAX_NAME_BYTES) _ some.1 in
     let first = parts (begins_word (get_or (capitals k) 0 0)) _ few.1 in
-    let rest = parts (list_all is_in_word (capitals k)) _ first.1 in (
-      record { some = grind (arith, nat_tests, some.0); few = grind (arith, nat_tests, few.0); first = first.0; rest = rest.0 },
-      record { capitals = capitals k; listed = (i, grind (arith, nat_tests, within.0), is); same = rest.1 },
-    )
+    let rest = parts (list_all is_in_word (capitals k)) _ first.1 in
+    (record { some = grind (arith, nat_tests, some.0); few = grind (arith, nat_tests, few.0); first = first.0; rest = rest.0 }, rest.1)
 
 keyword_spelled : (k : Keyword) → Spells (kind.Keyword k) (capitals k)
-unfolding keywords begins_word is_in_word
-keyword_spelled KSelect = spelled_at 0 KSelect refl refl
-keyword_spelled KInsert = spelled_at 1 KInsert refl refl
-keyword_spelled KInto = spelled_at 2 KInto refl refl
-keyword_spelled KValues = spelled_at 3 KValues refl refl
-keyword_spelled KUpdate = spelled_at 4 KUpdate refl refl
-keyword_spelled KSet = spelled_at 5 KSet refl refl
-keyword_spelled KDelete = spelled_at 6 KDelete refl refl
-keyword_spelled KFrom = spelled_at 7 KFrom refl refl
-keyword_spelled KWhere = spelled_at 8 KWhere refl refl
-keyword_spelled KJoin = spelled_at 9 KJoin refl refl
-keyword_spelled KOn = spelled_at 10 KOn refl refl
-keyword_spelled KGroup = spelled_at 11 KGroup refl refl
-keyword_spelled KBy = spelled_at 12 KBy refl refl
-keyword_spelled KOrder = spelled_at 13 KOrder refl refl
-keyword_spelled KAsc = spelled_at 14 KAsc refl refl
-keyword_spelled KDesc = spelled_at 15 KDesc refl refl
-keyword_spelled KLimit = spelled_at 16 KLimit refl refl
-keyword_spelled KAs = spelled_at 17 KAs refl refl
-keyword_spelled KBegin = spelled_at 18 KBegin refl refl
-keyword_spelled KOf = spelled_at 19 KOf refl refl
-keyword_spelled KEpoch = spelled_at 20 KEpoch refl refl
-keyword_spelled KCommit = spelled_at 21 KCommit refl refl
-keyword_spelled KRollback = spelled_at 22 KRollback refl refl
-keyword_spelled KExplain = spelled_at 23 KExplain refl refl
-keyword_spelled KAnd = spelled_at 24 KAnd refl refl
-keyword_spelled KOr = spelled_at 25 KOr refl refl
-keyword_spelled KNot = spelled_at 26 KNot refl refl
-keyword_spelled KIs = spelled_at 27 KIs refl refl
-keyword_spelled KNull = spelled_at 28 KNull refl refl
-keyword_spelled KTrue = spelled_at 29 KTrue refl refl
-keyword_spelled KFalse = spelled_at 30 KFalse refl refl
-keyword_spelled KCount = spelled_at 31 KCount refl refl
-keyword_spelled KSum = spelled_at 32 KSum refl refl
-keyword_spelled KMin = spelled_at 33 KMin refl refl
-keyword_spelled KMax = spelled_at 34 KMax refl refl
-keyword_spelled KInt = spelled_at 35 KInt refl refl
-keyword_spelled KText = spelled_at 36 KText refl refl
-keyword_spelled KBool = spelled_at 37 KBool refl refl
-keyword_spelled KKey = spelled_at 38 KKey refl refl
-keyword_spelled KFor = spelled_at 39 KFor refl refl
-keyword_spelled KUnique = spelled_at 40 KUnique refl refl
+unfolding begins_word is_in_word
+keyword_spelled KSelect = word_spelled KSelect refl
+keyword_spelled KInsert = word_spelled KInsert refl
+keyword_spelled KInto = word_spelled KInto refl
+keyword_spelled KValues = word_spelled KValues refl
+keyword_spelled KUpdate = word_spelled KUpdate refl
+keyword_spelled KSet = word_spelled KSet refl
+keyword_spelled KDelete = word_spelled KDelete refl
+keyword_spelled KFrom = word_spelled KFrom refl
+keyword_spelled KWhere = word_spelled KWhere refl
+keyword_spelled KJoin = word_spelled KJoin refl
+keyword_spelled KOn = word_spelled KOn refl
+keyword_spelled KGroup = word_spelled KGroup refl
+keyword_spelled KBy = word_spelled KBy refl
+keyword_spelled KOrder = word_spelled KOrder refl
+keyword_spelled KAsc = word_spelled KAsc refl
+keyword_spelled KDesc = word_spelled KDesc refl
+keyword_spelled KLimit = word_spelled KLimit refl
+keyword_spelled KAs = word_spelled KAs refl
+keyword_spelled KBegin = word_spelled KBegin refl
+keyword_spelled KOf = word_spelled KOf refl
+keyword_spelled KEpoch = word_spelled KEpoch refl
+keyword_spelled KCommit = word_spelled KCommit refl
+keyword_spelled KRollback = word_spelled KRollback refl
+keyword_spelled KExplain = word_spelled KExplain refl
+keyword_spelled KAnd = word_spelled KAnd refl
+keyword_spelled KOr = word_spelled KOr refl
+keyword_spelled KNot = word_spelled KNot refl
+keyword_spelled KIs = word_spelled KIs refl
+keyword_spelled KNull = word_spelled KNull refl
+keyword_spelled KTrue = word_spelled KTrue refl
+keyword_spelled KFalse = word_spelled KFalse refl
+keyword_spelled KCount = word_spelled KCount refl
+keyword_spelled KSum = word_spelled KSum refl
+keyword_spelled KMin = word_spelled KMin refl
+keyword_spelled KMax = word_spelled KMax refl
+keyword_spelled KInt = word_spelled KInt refl
+keyword_spelled KText = word_spelled KText refl
+keyword_spelled KBool = word_spelled KBool refl
+keyword_spelled KKey = word_spelled KKey refl
+keyword_spelled KFor = word_spelled KFor refl
+keyword_spelled KUnique = word_spelled KUnique refl
 
 pub keyword : (role : Role) (k : Keyword) → Prints (mark role (kind.Keyword k) ∷ []) (capitals k)
 keyword role k = token role (kind.Keyword k) (capitals k) (keyword_spelled k)

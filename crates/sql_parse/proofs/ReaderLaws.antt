@@ -2,8 +2,8 @@
 use Rattle.std.proofs.Common.{◌≡◌, ◌⊎◌, ℕ, List, [], ◌++◌, length, Bool, true, false, Ok, Err, refl, sym, ap, ◌∙◌, append_assoc, inl, inr, subst}
 use Rattle.sql_lex.specs.declared.token.TokenKind.{TokenKind}
 use Rattle.sql_parse.specs.declared.stop.Stop.TheVariants.{Stuck, Deep, NoMemory}
-use Rattle.sql_parse.specs.Trees.{IsPhrase}
 use Rattle.sql_parse.specs.Reading.{Outcome, Parser, and_then, ◌>>=◌, begins}
+use Rattle.sql_parse.proofs.ExpressionPhrases.{IsPhrase}
 use Rattle.sql_parse.proofs.ExpressionLaws.{Fits}
 use Rattle.sql_parse.proofs.ReaderParts.{Part, before, Every, Apart, Overruns, Later, SameFirst, before_append, before_onto, every_append, overruns_left, overruns_right, overruns_split, same_onto, same_before}
 

@@ -5,9 +5,10 @@ use Rattle.sql_lex.specs.declared.symbol.Symbol.TheVariants.{Comma}
 use Rattle.sql_lex.specs.declared.token.TokenKind.{TokenKind}
 use Rattle.sql_lex.specs.declared.token.TokenKind.TheVariants as kind
 use Rattle.sql_parse.specs.Kinds.{is_symbol}
-use Rattle.sql_parse.specs.Trees.{IsPhrase, marks, kinds}
+use Rattle.sql_parse.specs.Trees.{marks, kinds}
 use Rattle.sql_parse.specs.Forms.{Several, listed}
 use Rattle.sql_parse.specs.Reading.{Outcome, Parser, and_then, ◌>>=◌, ◌>>◌, pure, begins, symbol, others, separated}
+use Rattle.sql_parse.proofs.ExpressionPhrases.{IsPhrase}
 use Rattle.sql_parse.proofs.ExpressionLaws.{Fits}
 use Rattle.sql_parse.proofs.ReaderParts.{Part, Word, Phrase, before, Apart, fresh_after, every_left, every_right, apart_append}
 use Rattle.sql_parse.proofs.ReaderLaws.{Answers, Completes, Deepens, IsReader, both, chained, sequence_answers, sequence_completes, sequence_deepens}

@@ -2,8 +2,8 @@
 use Rattle.std.proofs.Common.{◌≡◌, ℕ, List, [], ◌∷◌, ◌++◌, Bool, true, false, ◌||◌, Ok, Err, refl, sym, ap, ◌∙◌, subst}
 use Rattle.sql_lex.specs.declared.token.TokenKind.{TokenKind}
 use Rattle.sql_parse.specs.declared.stop.Stop.TheVariants.{Stuck, Deep, NoMemory}
-use Rattle.sql_parse.specs.Trees.{IsPhrase}
 use Rattle.sql_parse.specs.Reading.{Outcome, Parser, and_then, ◌>>=◌, pure, begins}
+use Rattle.sql_parse.proofs.ExpressionPhrases.{IsPhrase}
 use Rattle.sql_parse.proofs.ExpressionLaws.{Fits}
 use Rattle.sql_parse.proofs.ReaderParts.{Part, Word, Phrase, before, Every, Apart, fresh_after, Overruns, every_append, every_left, every_right, apart_append}
 use Rattle.sql_parse.proofs.ReaderLaws.{Answers, Ended, IsReader, both, chained, sequence_answers, sequence_completes, sequence_deepens}

@@ -4,10 +4,12 @@ use Rattle.sql_ast.specs.declared.statement.Statement.{Statement}
 use Rattle.sql_lex.specs.declared.token.TokenKind.{TokenKind}
 use Rattle.sql_parse.specs.declared.stop.Stop.{Stop}
 use Rattle.sql_parse.specs.declared.stop.Stop.TheVariants.{Stuck, Deep, NoMemory}
-use Rattle.sql_parse.specs.Trees.{Tree, IsPhrase, kinds}
+use Rattle.sql_parse.specs.Trees.{Tree, kinds}
 use Rattle.sql_parse.specs.Forms.{StatementForm, statement_marks, statement_of, Each, IsForm}
+use Rattle.sql_parse.specs.Lines.{Expr, Stands}
 use Rattle.sql_parse.specs.Grammar.{IsSpelled, IsDeep}
 use Rattle.sql_parse.specs.Reading.{Outcome, begins, statement, ended, to_end, whole}
+use Rattle.sql_parse.proofs.ExpressionPhrases.{IsPhrase, stands_phrase, phrase_stands}
 use Rattle.sql_parse.proofs.ExpressionLaws.{ExpressionLaws, Fits}
 use Rattle.sql_parse.proofs.ReaderParts.{before, parts_marks, Every, every_weaker, every_both, Overruns}
 use Rattle.sql_parse.proofs.ReaderLaws.{IsGiven, IsHeld, IsOver, Answers, Ended, IsReader}
@@ -30,6 +32,13 @@ pub record IsWhole (tokens : List TokenKind) (s : Statement) : Type 0 where
   pub shows : kinds (statement_marks form) ≡ tokens
   pub means : statement_of form ≡ s
 
+-- the expressions that stand on the grammar's lines are the phrases
+form_phrases : (form : StatementForm) → IsForm form → Every IsPhrase (statement_parts form)
+form_phrases form lawful = every_weaker (λ tree. Stands tree Expr) IsPhrase stands_phrase (statement_parts form) (each_every (λ tree. Stands tree Expr) form lawful)
+
+phrases_form : (form : StatementForm) → Every IsPhrase (statement_parts form) → IsForm form
+phrases_form form lawful = every_each (λ tree. Stands tree Expr) form (every_weaker IsPhrase (λ tree. Stands tree Expr) phrase_stands (statement_parts form) lawful)
+
 tokens_of_form : (form : StatementForm) → kinds (statement_marks form) ≡ before (statement_parts form) []
 tokens_of_form form = ap kinds (sym (statement_shows form)) ∙ kinds_of_parts (statement_parts form)
 
@@ -37,7 +46,7 @@ pub spelled_by : (form : StatementForm) (tokens : List TokenKind) → Every IsPh
 spelled_by form tokens lawful shows = record {
   marks = statement_marks form;
   kinds = tokens_of_form form ∙ shows;
-  written = record { form = form; lawful = every_each IsPhrase form lawful; shows = refl; means = refl };
+  written = record { form = form; lawful = phrases_form form lawful; shows = refl; means = refl };
 }
 
 at_the_end : Ended always []
@@ -111,7 +120,7 @@ module _ (laws : ExpressionLaws) where
 
   pub deep_by : (tokens : List TokenKind) (left : ℕ) → IsOver statement_parts tokens left → IsDeep tokens left
   deep_by tokens left over =
-      over_deep over.form tokens left (every_each IsPhrase over.form over.lawful) (over_exceeds (statement_parts over.form) tokens left (reader.apart over.form) over.over)
+      over_deep over.form tokens left (phrases_form over.form over.lawful) (over_exceeds (statement_parts over.form) tokens left (reader.apart over.form) over.over)
 
   -- where an expression is too deep, reading stops there or before
   pub deep_found : (tokens : List TokenKind) (at : ℕ) → IsDeep tokens at → (left : ℕ) × (at ≤ left) × (statement tokens ≡ Err (Deep left))
@@ -124,7 +133,7 @@ module _ (laws : ExpressionLaws) where
         found.0,
         subst (λ n. n ≤ found.0) deep.place found.1,
         ap statement (sym deep.whole)
-            ∙ reader.deep deep.written.form (kinds deep.front ++ deep.here.kind ∷ deep.rest) found.0 (each_every IsPhrase deep.written.form deep.written.lawful) found.2,
+            ∙ reader.deep deep.written.form (kinds deep.front ++ deep.here.kind ∷ deep.rest) found.0 (form_phrases deep.written.form deep.written.lawful) found.2,
       )
 
   -- ---- complete
@@ -151,7 +160,7 @@ module _ (laws : ExpressionLaws) where
       form = spelled.written.form
 
       lawful : Every IsPhrase (statement_parts form)
-      lawful = each_every IsPhrase form spelled.written.lawful
+      lawful = form_phrases form spelled.written.lawful
 
       same : kinds (statement_marks form) ≡ tokens
       same = ap kinds spelled.written.shows ∙ spelled.kinds

@@ -1,7 +1,6 @@
 -- A text is parsed as a statement where its tokens spell it, and refused where it has the fault.
-use Rattle.std.proofs.Common.{◌≡◌, ◌↔◌, ℕ, List, Result, Ok, Err, length, refl, sym, subst}
+use Rattle.std.proofs.Common.{◌≡◌, ◌⊎◌, ◌↔◌, ℕ, List, Result, Ok, Err, IfOk, IfErr, MatchResult, length, refl, sym, subst, inl, inr}
 use Rattle.sql_ast.specs.declared.statement.Statement.{Statement}
-use Rattle.sql_lex.specs.declared.token.LexFault.{LexFault}
 use Rattle.sql_lex.specs.declared.token.LexFault.TheVariants as lex
 use Rattle.sql_lex.specs.declared.token.Token.{Token}
 use Rattle.sql_lex.specs.Tokens.{Tokens, tokens_of}
@@ -87,3 +86,33 @@ texts_refused text (fault.TooDeep at) = (
       (is.tokens, is.left, cut_is_tokens text is.tokens is.cut, (statements_deepen expression_laws (kinds_of is.tokens) is.left).1 is.deep, is.place),
 )
 texts_refused text fault.NoMemory = (λ same. parsed_never text same, λ never. absurd never)
+
+-- ---- what an answer says of the text, where there may be no memory
+
+-- the text's statement or fault, or want of memory
+abbrev pub IsAnswer : List ℕ → Result Statement ParseFault → Type 0
+IsAnswer text answer = MatchResult answer (λ s. parsed text ≡ Ok s) (λ f. (f ≡ fault.NoMemory) ⊎ (parsed text ≡ Err f))
+
+both_read : (r : Result Statement ParseFault) (found s : Statement) → r ≡ Ok found → r ≡ Ok s → found ≡ s
+both_read r found s e f = cc
+
+read_and_refused : (r : Result Statement ParseFault) (f : ParseFault) (s : Statement) → r ≡ Err f → r ≡ Ok s → ⊥
+read_and_refused r f s e same = cc
+
+-- the statement is the text's
+pub answer_spelled : (text : List ℕ) (answer : Result Statement ParseFault) → IsAnswer text answer → IfOk answer (λ s. IsTextOf text s)
+answer_spelled text (Ok s) same = (texts_spelled text s).0 same
+answer_spelled text (Err f) is = tt
+
+-- a text that spells a statement is read as no other, and is refused for want of memory alone
+pub answer_only : (text : List ℕ) (answer : Result Statement ParseFault) → IsAnswer text answer → (s : Statement) → IsTextOf text s →
+    MatchResult answer (λ found. found ≡ s) (λ f. f ≡ fault.NoMemory)
+answer_only text (Ok found) same s is = both_read (parsed text) found s same ((texts_spelled text s).1 is)
+answer_only text (Err f) (inl memory) s is = memory
+answer_only text (Err f) (inr refused) s is = absurd (read_and_refused (parsed text) f s refused ((texts_spelled text s).1 is))
+
+-- the fault is the text's
+pub answer_refused : (text : List ℕ) (answer : Result Statement ParseFault) → IsAnswer text answer → IfErr answer (λ f. (f ≡ fault.NoMemory) ⊎ IsRefused text f)
+answer_refused text (Ok s) same = tt
+answer_refused text (Err f) (inl memory) = inl memory
+answer_refused text (Err f) (inr refused) = inr ((texts_refused text f).0 refused)

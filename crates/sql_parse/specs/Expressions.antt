@@ -1,5 +1,5 @@
 -- Expressions, read one token at a time from the left: what is open, and what a token does to it.
-use Rattle.std.specs.Prelude.{◌+◌, ℕ, Bool, true, false, ◌&&◌, ◌==◌, nat_le, nat_lt, if◌then◌else◌, List, [], ◌∷◌, length, Option, Some, None, Result, Ok, Err, ℤ, pos, neg_ℤ}
+use Rattle.std.specs.Prelude.{◌+◌, ℕ, Bool, true, false, nat_le, nat_lt, if◌then◌else◌, List, [], ◌∷◌, length, Option, Some, None, Result, Ok, Err, pos, neg_ℤ}
 use Rattle.geo_base.specs.declared.cell.Cell.TheVariants as cell
 use Rattle.sql_ast.specs.declared.ast.Ast.{Ast}
 use Rattle.sql_ast.specs.declared.ast.Ast.TheVariants as ast

@@ -25,7 +25,8 @@ use Rattle.sql_lex.specs.declared.symbol.Symbol.{Symbol}
 use Rattle.sql_lex.specs.declared.symbol.Symbol.TheVariants.{Open, Close, Comma, Equal}
 use Rattle.sql_lex.specs.declared.symbol.Symbol.TheVariants as star
 use Rattle.sql_lex.specs.declared.token.TokenKind.TheVariants as kind
-use Rattle.sql_parse.specs.Trees.{Role, Outside, Mark, mark, Tree, IsPhrase, marks, value, column_kinds}
+use Rattle.sql_parse.specs.Trees.{Outside, Mark, mark, Tree, marks, value, column_kinds}
+use Rattle.sql_parse.specs.Lines.{Expr, Stands}
 
 -- ---- words
 
@@ -319,6 +320,6 @@ Each P Commit = Unit {0}
 Each P Rollback = Unit {0}
 Each P (Explain select) = IsSelect P select
 
--- each of its expressions is a phrase of the grammar
+-- each of its expressions stands on the grammar's line of whole expressions
 abbrev pub IsForm : StatementForm → Type 0
-IsForm form = Each IsPhrase form
+IsForm form = Each (λ tree. Stands tree Expr) form

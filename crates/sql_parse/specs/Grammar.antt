@@ -1,5 +1,5 @@
 -- What a statement is, in the terms of its tokens, and where tokens stop being one.
-use Rattle.std.specs.Prelude.{◌≡◌, ◌≢◌, ◌<◌, ◌≤◌, ◌⊎◌, ◌↔◌, ℕ, ◌+◌, Bool, true, false, List, [], ◌∷◌, ◌++◌, length, take, is_some}
+use Rattle.std.specs.Prelude.{◌≡◌, ◌≤◌, ℕ, ◌+◌, Bool, false, List, [], ◌∷◌, ◌++◌, length, is_some}
 use Rattle.sql_ast.specs.declared.statement.Statement.{Statement}
 use Rattle.sql_lex.specs.declared.symbol.Symbol.TheVariants as symbol
 use Rattle.sql_lex.specs.declared.token.TokenKind.{TokenKind}

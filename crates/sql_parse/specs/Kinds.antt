@@ -1,6 +1,6 @@
 -- What a token is, by its kind.
 use denote.Enum.Bare.{sameb}
-use Rattle.std.specs.Prelude.{ℕ, Bool, true, false, ◌==◌, List, [], ◌∷◌, Option, Some, None, ℤ, pos, negsuc}
+use Rattle.std.specs.Prelude.{ℕ, Bool, false, Option, Some, None, pos}
 use Rattle.sql_ast.specs.declared.ast.AstOp.{AstOp}
 use Rattle.sql_ast.specs.declared.ast.AstOp.TheVariants as op
 use Rattle.sql_lex.specs.declared.keyword.Keyword.{Keyword}

@@ -1,6 +1,7 @@
 pub mod Kinds
 pub mod Levels
 pub mod Trees
+pub mod Lines
 pub mod Forms
 pub mod Grammar
 pub mod Expressions

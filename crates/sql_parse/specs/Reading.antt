@@ -1,6 +1,5 @@
 -- Statements, read from the left by one function for each line of the grammar.
-use Rattle.std.specs.Prelude.{ℕ, zero, suc, ◌+◌, Bool, true, false, ◌||◌, if◌then◌else◌, List, [], ◌∷◌, length, drop, Option, Some, None, Result, Ok, Err, ◌≡◌}
-use Rattle.std.specs.Coded.{Coded}
+use Rattle.std.specs.Prelude.{ℕ, zero, suc, Bool, true, false, if◌then◌else◌, List, [], ◌∷◌, length, drop, Option, Some, None, Result, Ok, Err, ◌≡◌}
 use Rattle.sql_ast.specs.declared.ast.Ast.{Ast}
 use Rattle.sql_ast.specs.declared.ast.ColRef.{ColRef}
 use Rattle.sql_ast.specs.declared.delete.DeleteStmt.{DeleteStmt}

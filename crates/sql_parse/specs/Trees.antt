@@ -1,5 +1,5 @@
 -- Expressions as they are written: what stands in an expression's tokens, with its parentheses.
-use Rattle.std.specs.Prelude.{◌≡◌, ◌≤◌, ◌≢◌, ℕ, ◌+◌, Bool, true, false, List, [], ◌∷◌, ◌++◌, map, Option, Some, None, ℤ, pos, neg_ℤ}
+use Rattle.std.specs.Prelude.{ℕ, Bool, true, false, List, [], ◌∷◌, ◌++◌, map, Option, Some, None, pos, neg_ℤ}
 use Rattle.geo_base.specs.declared.cell.Cell.TheVariants as cell
 use Rattle.sql_ast.specs.declared.ast.Ast.{Ast}
 use Rattle.sql_ast.specs.declared.ast.Ast.TheVariants as ast
@@ -10,7 +10,6 @@ use Rattle.sql_lex.specs.declared.symbol.Symbol.TheVariants as symbol
 use Rattle.sql_lex.specs.declared.token.TokenKind.{TokenKind}
 use Rattle.sql_lex.specs.declared.token.TokenKind.TheVariants as kind
 use Rattle.sql_parse.specs.Kinds.{operator_kind}
-use Rattle.sql_parse.specs.Levels.{level_of, left_of, right_of, not_level, test_level, sum_level, sign_level, whole_level}
 
 -- what a token does in a statement
 pub data Role : Type 0 where
@@ -51,33 +50,10 @@ pub data Tree : Type 0 where
   -- IS NULL, and where the flag is true IS NOT NULL
   IsNull : Tree → Bool → Tree
 
--- how tight its parts hold together
-abbrev pub level : Tree → ℕ
-level (Infix operator a b) = level_of operator
-level (Not a) = not_level
-level (IsNull a is_not) = test_level
-level (Minus a) = sign_level
-level (Int n) = whole_level
-level (Negative n) = whole_level
-level (Text t) = whole_level
-level (Truth t) = whole_level
-level Null = whole_level
-level (Column c) = whole_level
-level (Paren a) = whole_level
-
 -- a minus sign before this is an operator, and makes no negative literal of it
 abbrev pub TakesSign : Tree → Type 0
 TakesSign (Int n) = ⊥
 TakesSign _ = Unit {0}
-
--- each operand is as tight as the grammar wants it
-abbrev pub IsPhrase : Tree → Type 0
-IsPhrase (Infix operator a b) = IsPhrase a × IsPhrase b × (left_of operator ≤ level a) × (right_of operator ≤ level b)
-IsPhrase (Not a) = IsPhrase a × (not_level ≤ level a)
-IsPhrase (IsNull a is_not) = IsPhrase a × (sum_level ≤ level a)
-IsPhrase (Minus a) = IsPhrase a × (sign_level ≤ level a) × TakesSign a
-IsPhrase (Paren a) = IsPhrase a
-IsPhrase _ = Unit {0}
 
 -- the tokens of a column
 abbrev pub column_kinds : ColRef → List TokenKind

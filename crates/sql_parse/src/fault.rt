@@ -10,5 +10,6 @@ pub enum ParseFault {
     BadSyntax(u32),
     /// The place of the first operator or opening parenthesis of one expression past the 400th.
     TooDeep(u32),
+    /// There was no memory for the tokens or for the statement. It says nothing of the text.
     NoMemory,
 }

@@ -1,6 +1,7 @@
 //! Parses a text.
 
 ghost use Rattle.std.specs.Prelude.{◌≡◌, ◌⊎◌, ◌<◌, ◌^◌, length, Ok, Err, IfOk, IfErr, MatchResult};
+ghost use Rattle.sql_ast.specs.declared.statement.Statement.{Statement};
 ghost use Rattle.sql_parse.specs.Parsing as spec;
 ghost use Rattle.sql_parse.specs.Parsing.{parsed};
 ghost use Rattle.sql_parse.specs.Refusals.{IsTextOf, IsRefused};
@@ -43,16 +44,13 @@ fn text_fault(fault: LexFault) -> ParseFault
     }
 }
 
-/// Parses a text of less than 2 ^ 32 bytes: the statement that it spells, or the first fault. A fault of
-/// its tokens comes before any other. Takes time that grows as the text's length.
-#[tactic(auto, unfolding(crate::specs::Parsing::parsed), using(crate::proofs::TextRefusals::texts_spelled, crate::proofs::TextRefusals::texts_refused))]
-pub fn parse(alloc: Global, text: &str) -> Result<Statement, ParseFault>
+// The statement that the text spells, or its first fault.
+#[tactic(auto, unfolding(crate::specs::Parsing::parsed))]
+fn read_text(alloc: Global, text: &str) -> Result<Statement, ParseFault>
     requires { length text.now < 2 ^ 32 }
-    ensures exact { MatchResult result
+    ensures { MatchResult result
         (λ statement. parsed text.now ≡ Ok statement)
         (λ fault. (fault ≡ ParseFault.NoMemory) ⊎ (parsed text.now ≡ Err fault)) }
-    ensures spelled { IfOk result (λ statement. IsTextOf text.now statement) }
-    ensures refused { IfErr result (λ fault. (fault ≡ ParseFault.NoMemory) ⊎ IsRefused text.now fault) }
 {
     let tokens = match lex(alloc, text) {
         Ok(tokens) => tokens,
@@ -62,4 +60,19 @@ pub fn parse(alloc: Global, text: &str) -> Result<Statement, ParseFault>
         Ok(statement) => Ok(statement),
         Err(stop) => Err(fault_of(text.len() as u32, tokens.as_slice(), stop)),
     }
+}
+
+/// Parses a text of less than 2 ^ 32 bytes: the statement that it spells, or the first fault. A fault of
+/// its tokens comes before any other. Takes time that grows as the text's length.
+pub fn parse(alloc: Global, text: &str) -> Result<Statement, ParseFault>
+    requires { length text.now < 2 ^ 32 }
+    ensures exact { MatchResult result
+        (λ statement. parsed text.now ≡ Ok statement)
+        (λ fault. (fault ≡ ParseFault.NoMemory) ⊎ (parsed text.now ≡ Err fault)) }
+    ensures spelled { IfOk result (λ statement. IsTextOf text.now statement) }
+    ensures only { (statement : Statement) → IsTextOf text.now statement →
+        MatchResult result (λ found. found ≡ statement) (λ fault. fault ≡ ParseFault.NoMemory) }
+    ensures refused { IfErr result (λ fault. (fault ≡ ParseFault.NoMemory) ⊎ IsRefused text.now fault) }
+{
+    read_text(alloc, text)
 }

@@ -1,6 +1,6 @@
 //! All statements.
 
-ghost use Rattle.std.specs.Prelude.{◌≡◌, ◌⊎◌, ◌∷◌, List, Ok, Err, MatchResult};
+ghost use Rattle.std.specs.Prelude.{◌≡◌, ◌⊎◌, ◌∷◌, List, drop, Ok, Err, MatchResult};
 ghost use Rattle.sql_lex.specs.declared.token.TokenKind.{TokenKind};
 ghost use Rattle.sql_parse.specs.Parsing.{kinds_of};
 ghost use Rattle.sql_parse.specs.Reading as spec;
@@ -26,6 +26,15 @@ fn read_begin(cursor: &mut Cursor<'_>) -> Result<Statement, Stop>
     cursor.expect_keyword(Keyword::KOf)?;
     cursor.expect_keyword(Keyword::KEpoch)?;
     Ok(Statement::BeginAsOf(read_number(cursor)?))
+}
+
+// A statement that is the one word that comes next.
+fn read_word(cursor: &mut Cursor<'_>, statement: Statement) -> Statement
+    ensures value { result ≡ statement }
+    ensures rest { cursor.new ≡ drop 1 cursor.old }
+{
+    cursor.skip();
+    statement
 }
 
 // The statement that this keyword begins, which comes next.
@@ -59,14 +68,8 @@ fn read_by_keyword(
             cursor.skip();
             read_begin(cursor)
         }
-        Keyword::KCommit => {
-            cursor.skip();
-            Ok(Statement::Commit)
-        }
-        Keyword::KRollback => {
-            cursor.skip();
-            Ok(Statement::Rollback)
-        }
+        Keyword::KCommit => Ok(read_word(cursor, Statement::Commit)),
+        Keyword::KRollback => Ok(read_word(cursor, Statement::Rollback)),
         Keyword::KExplain => {
             cursor.skip();
             cursor.expect_keyword(Keyword::KSelect)?;

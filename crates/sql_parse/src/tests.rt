@@ -1,6 +1,5 @@
 use crate::{ParseFault, parse};
 use sql_ast::print;
-use sql_lex::KEYWORDS;
 use std::alloc::{AllocError, Global};
 use std::test::Fail;
 
@@ -124,6 +123,13 @@ fn faults_have_their_places(rt: HostRuntime) -> Result<(), Fail> {
         ("SELECT COUNT(*) + 1 FROM t", ParseFault::BadSyntax(16)),
         ("INSERT INTO t () VALUES (1)", ParseFault::BadSyntax(15)),
         ("COMMIT COMMIT", ParseFault::BadSyntax(7)),
+        // cut inside a token
+        ("SELEC", ParseFault::BadSyntax(0)),
+        ("SELECT a FRO", ParseFault::BadSyntax(9)),
+        ("SELECT a <", ParseFault::BadSyntax(10)),
+        ("INSERT INT", ParseFault::BadSyntax(7)),
+        ("DELETE FROM t WHERE a AN", ParseFault::BadSyntax(22)),
+        ("UPDATE t SET a = 'x", ParseFault::BadText(17)),
     ];
     for (text, wanted) in table {
         let found = printed(alloc, text);
@@ -135,13 +141,56 @@ fn faults_have_their_places(rt: HostRuntime) -> Result<(), Fail> {
 #[test]
 fn keywords_are_no_names(rt: HostRuntime) -> Result<(), Fail> {
     let alloc = rt.alloc();
-    for (word, _) in KEYWORDS {
-        let mut text = String::from_str(alloc, "DELETE FROM ")?;
-        for letter in word {
-            text.push(char::from(*letter))?;
+    let words = [
+        ("SELECT", "select"),
+        ("INSERT", "insert"),
+        ("INTO", "into"),
+        ("VALUES", "values"),
+        ("UPDATE", "update"),
+        ("SET", "set"),
+        ("DELETE", "delete"),
+        ("FROM", "from"),
+        ("WHERE", "where"),
+        ("JOIN", "join"),
+        ("ON", "on"),
+        ("GROUP", "group"),
+        ("BY", "by"),
+        ("ORDER", "order"),
+        ("ASC", "asc"),
+        ("DESC", "desc"),
+        ("LIMIT", "limit"),
+        ("AS", "as"),
+        ("BEGIN", "begin"),
+        ("OF", "of"),
+        ("EPOCH", "epoch"),
+        ("COMMIT", "commit"),
+        ("ROLLBACK", "rollback"),
+        ("EXPLAIN", "explain"),
+        ("AND", "and"),
+        ("OR", "or"),
+        ("NOT", "not"),
+        ("IS", "is"),
+        ("NULL", "null"),
+        ("TRUE", "true"),
+        ("FALSE", "false"),
+        ("COUNT", "count"),
+        ("SUM", "sum"),
+        ("MIN", "min"),
+        ("MAX", "max"),
+        ("INT", "int"),
+        ("TEXT", "text"),
+        ("BOOL", "bool"),
+        ("KEY", "key"),
+        ("FOR", "for"),
+        ("UNIQUE", "unique"),
+    ];
+    for (capitals, small) in words {
+        for word in [capitals, small] {
+            let mut text = String::from_str(alloc, "DELETE FROM ")?;
+            text.push_str(word)?;
+            let found = printed(alloc, text.as_str());
+            assert!(rt; found == Err(ParseFault::BadSyntax(12)), "{text}");
         }
-        let found = printed(alloc, text.as_str());
-        assert!(rt; found == Err(ParseFault::BadSyntax(12)), "{text}");
     }
     Ok(())
 }
@@ -223,6 +272,25 @@ fn expressions_are_not_too_deep(rt: HostRuntime) -> Result<(), Fail> {
             fault == Some(ParseFault::TooDeep(at)),
             "{opening}{closing}"
         );
+    }
+    Ok(())
+}
+
+#[test]
+fn one_of_two_faults_is_told(rt: HostRuntime) -> Result<(), Fail> {
+    let alloc = rt.alloc();
+    let table = [
+        ("SELECT ", "", ParseFault::TooDeep(407)),
+        ("SELECT ", "a b FROM t", ParseFault::TooDeep(407)),
+        ("SELECT a b, ", "a FROM t", ParseFault::BadSyntax(9)),
+        ("SELECT ", "a FROM t WHERE 'x", ParseFault::BadText(423)),
+    ];
+    for (before, behind, wanted) in table {
+        let mut text = String::from_str(alloc, before)?;
+        push_many(&mut text, "-", 401)?;
+        text.push_str(behind)?;
+        let found = place_of_fault(alloc, text.as_str());
+        assert!(rt; found == Some(wanted), "{before}{behind}");
     }
     Ok(())
 }
