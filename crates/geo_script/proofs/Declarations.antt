@@ -198,7 +198,7 @@ word_is : (text : List ℕ) (parts : List ℕ × List ℕ) → first_word text �
 unfolding first_word
 word_is text parts is = filled_is text parts (cut 32 text) refl is
 
-word_read : (word rest : List ℕ) → 0 < length word → Lacks 32 word → first_word (word ++ 32 ∷ rest) ≡ Ok (word, rest)
+pub word_read : (word rest : List ℕ) → 0 < length word → Lacks 32 word → first_word (word ++ 32 ∷ rest) ≡ Ok (word, rest)
 unfolding first_word
 word_read word rest some lacks = rw (cut_at 32 word rest lacks) (rw (ne_eqb (length word) 0 (λ is. omega arith)) refl)
 

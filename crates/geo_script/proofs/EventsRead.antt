@@ -19,24 +19,26 @@ use Rattle.geo_script.specs.declared.script.Form.TheVariants.{Play, Run}
 use Rattle.geo_script.specs.declared.verb.Verb.{Verb}
 use Rattle.geo_script.specs.declared.verb.Verb.TheVariants as verb
 use Rattle.geo_script.specs.EventLines.{Read, region, place, statement_parts, sql, outcome, only_region, packet_words, deliver, fetch, work, sealing_of, crash_words, crash, after_words, crash_after, if_admitted, play_event, run_event, form_event, event_of, event_line}
+use Rattle.geo_script.specs.EventWords.{verb_text}
 use Rattle.geo_script.specs.Past.{RunPast, has_crash, has_session}
 use Rattle.geo_script.specs.Spelling.{session_text, sealing_text, event_text, IsShortened, Types, IsWithin, IsOfForm}
 use Rattle.geo_script.specs.Words.{◌>>=◌, is_word}
 use Rattle.geo_script.proofs.Cuts.{Lacks, cut_at, two, three}
 use Rattle.geo_script.proofs.Decimals.{decimal_lacks, decimal_word, number_read}
-use Rattle.geo_script.proofs.EventsSpelled.{IsRegions, IsAdmitted}
-use Rattle.geo_script.proofs.VerbTexts.{verb_text, behind_verb}
+use Rattle.geo_script.proofs.EventsSpelled.{IsAdmitted}
+use Rattle.geo_script.proofs.PlayLines.{IsRegions}
+use Rattle.geo_script.proofs.VerbTexts.{behind_verb}
 
 -- ---- numbers and words
 
-region_read : (regions at : ℕ) → IsRegions regions → at < regions → region regions (decimal at) ≡ Ok at
+pub region_read : (regions at : ℕ) → IsRegions regions → at < regions → region regions (decimal at) ≡ Ok at
 region_read regions at lawful within =
     ap (λ o. ok_or o BadNumber) (number_read 0 (regions - 1) at (omega (arith, lawful.some, lawful.few)) (omega arith) (omega arith))
 
-at_word : (regions at : ℕ) → IsRegions regions → at < regions → is_word (decimal at) ≡ true
+pub at_word : (regions at : ℕ) → IsRegions regions → at < regions → is_word (decimal at) ≡ true
 at_word regions at lawful within = decimal_word at (omega (arith, lawful.few))
 
-place_read : (regions at session : ℕ) → IsRegions regions → at < regions → session < SESSIONS_PER_REGION → place regions (session_text at session) ≡ Ok (at, session)
+pub place_read : (regions at session : ℕ) → IsRegions regions → at < regions → session < SESSIONS_PER_REGION → place regions (session_text at session) ≡ Ok (at, session)
 unfolding place
 place_read regions at session lawful within few =
     rw (cut_at 46 (decimal at) (decimal session) (decimal_lacks at 46 (omega (arith, lawful.few)) (λ range. omega arith)))
@@ -51,7 +53,7 @@ some_lacking : (bytes : List ℕ) → 0 < length bytes → Lacks 32 bytes → is
 unfolding is_word
 some_lacking bytes some lacks = rw (ne_eqb (length bytes) 0 (λ is. omega arith), lacks) refl
 
-place_word : (at session : ℕ) → at < 2 ^ 64 → session < 2 ^ 64 → is_word (session_text at session) ≡ true
+pub place_word : (at session : ℕ) → at < 2 ^ 64 → session < 2 ^ 64 → is_word (session_text at session) ≡ true
 place_word at session fits small =
     some_lacking (session_text at session) (omega (arith, length-append (decimal at) (46 ∷ decimal session)))
     (lacks_append 32 (decimal at) (46 ∷ decimal session) (decimal_lacks at 32 fits (λ range. omega arith))
@@ -62,7 +64,7 @@ unfolding is_word
 word_lacks bytes word = (and_parts (not (length bytes == 0)) (list_all (λ b. not (b == 32)) bytes) word).1
 
 -- what has a space is no word
-no_word : (front rest : List ℕ) → is_word (front ++ 32 ∷ rest) ≡ false
+pub no_word : (front rest : List ℕ) → is_word (front ++ 32 ∷ rest) ≡ false
 no_word front rest = elim (cases_Bool (is_word (front ++ 32 ∷ rest))) [ inl word ↦ absurd (has front (word_lacks (front ++ 32 ∷ rest) word)) | inr other ↦ other ]
   where
     has : (xs : List ℕ) → Lacks 32 (xs ++ 32 ∷ rest) → ⊥
@@ -71,7 +73,7 @@ no_word front rest = elim (cases_Bool (is_word (front ++ 32 ∷ rest))) [ inl wo
 
 -- ---- lines of plays
 
-sql_read : (regions at session : ℕ) (text : List ℕ) → IsRegions regions → at < regions → session < SESSIONS_PER_REGION → 1 ≤ length text → length text ≤ STATEMENT_BYTES →
+pub sql_read : (regions at session : ℕ) (text : List ℕ) → IsRegions regions → at < regions → session < SESSIONS_PER_REGION → 1 ≤ length text → length text ≤ STATEMENT_BYTES →
     sql regions (session_text at session ++ 32 ∷ text) ≡ Ok (event.Sql at session text)
 unfolding sql statement_parts
 sql_read regions at session text lawful within few some short =
@@ -118,7 +120,7 @@ work_read regions at worker lawful within few =
     rw (two (decimal at) (decimal worker) (at_word regions at lawful within) (decimal_word worker (omega arith)))
     (rw (region_read regions at lawful within, number_read 0 (SEATS_PER_ROUND - 1) worker (omega arith) (omega arith) (omega arith)) refl)
 
-crash_words_read : (word : List ℕ) (sealing : Sealing) → is_word word ≡ true → crash_words (word ++ sealing_text sealing) ≡ Some (word, sealing)
+pub crash_words_read : (word : List ℕ) (sealing : Sealing) → is_word word ≡ true → crash_words (word ++ sealing_text sealing) ≡ Some (word, sealing)
 unfolding crash_words sealing_of
 crash_words_read word No is = rw (append-nil word) (rw is refl)
 crash_words_read word Kept is =
@@ -133,7 +135,7 @@ crash_read regions at sealing lawful within =
 
 -- ---- lines of runs
 
-after_read : (first second : List ℕ) → is_word first ≡ true → is_word second ≡ true → after_words (first ++ 32 ∷ (codes "after" ++ 32 ∷ second)) ≡ Some (first, second)
+pub after_read : (first second : List ℕ) → is_word first ≡ true → is_word second ≡ true → after_words (first ++ 32 ∷ (codes "after" ++ 32 ∷ second)) ≡ Some (first, second)
 unfolding after_words
 after_read first second one other = rw (three first (codes "after") second one (some_lacking (codes "after") (omega arith) refl) other) refl
 

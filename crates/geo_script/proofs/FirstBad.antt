@@ -1,259 +1,32 @@
 -- The first bad line of lines that are no script.
-use Rattle.std.proofs.Common.{◌≡◌, ◌≢◌, ℕ, ◌+◌, Bool, true, false, cond, List, [], ◌∷◌, ◌++◌, length, Ok, Err, nat_le, refl, sym, ap, ◌∙◌, subst, arith, inl, inr, ◌⊎◌}
+use Rattle.std.proofs.Common.{◌≡◌, ℕ, ◌+◌, Bool, true, false, cond, List, [], ◌∷◌, ◌++◌, length, Ok, Err, nat_le, refl, sym, ap, ◌∙◌, subst, arith, inl, inr, ◌⊎◌}
 use Rattle.std.specs.Prelude.{codes}
 use Rattle.std.specs.Fmt.{decimal}
-use Rattle.std.specs.Str.{bytes_eq}
-use Rattle.std.proofs.lemmas.Bool.{leb-true, leb-false, le-leb, lt-leb, false_from_ne_true, false≢true}
-use Rattle.std.proofs.Common.{add-zero}
+use Rattle.std.proofs.lemmas.Bool.{leb-true, leb-false, le-leb, lt-leb}
 use Rattle.std.proofs.lemmas.List.{append-nil, append_assoc}
-use Rattle.std.proofs.lemmas.Slice.Eq.{bytes_eq-Decides}
-use Rattle.std.proofs.lemmas.Str.{IsUtf8-from_is_utf8, is_utf8-from_IsUtf8}
 use Rattle.geo_base.specs.declared.limits.TheConstants.{SCRIPT_BYTES}
 use Rattle.geo_schema.specs.declared.table.TableDef.{TableDef}
-use Rattle.geo_script.specs.declared.event.Event.{Event}
 use Rattle.geo_script.specs.declared.fault.ScriptFault.{ScriptFault}
 use Rattle.geo_script.specs.declared.fault.ScriptKind.{ScriptKind}
-use Rattle.geo_script.specs.declared.fault.ScriptKind.TheVariants.{BadHeader, TooLong, MissingBegin}
+use Rattle.geo_script.specs.declared.fault.ScriptKind.TheVariants.{BadHeader, TooLong}
 use Rattle.geo_script.specs.declared.script.EventAt.{EventAt}
 use Rattle.geo_script.specs.declared.script.Form.{Form}
 use Rattle.geo_script.specs.declared.script.Script.{Script}
-use Rattle.geo_script.specs.EventLines.{Read, event_line}
+use Rattle.geo_script.specs.EventLines.{Read}
 use Rattle.geo_script.specs.Faults.{BeginsScript, IsWrongHead, IsWrongEvent, IsWrong, lacking, LacksLine, HasBadLine, IsFault}
 use Rattle.geo_script.specs.Lines.{lines_of, is_silent, spoken_from}
-use Rattle.geo_script.specs.Past.{RunPast, nothing_yet, with_event, past_behind}
+use Rattle.geo_script.specs.Past.{nothing_yet, past_behind}
 use Rattle.geo_script.specs.Scripts.{Checked, bad, at, title, title_line, regions_line, head_of, events_of, body_of, script_of_lines, script_of}
 use Rattle.geo_script.specs.Spelling.{AreDeclared, AreEventLines, IsLawful, IsScript}
-use Rattle.geo_script.specs.TableLines.{table_line}
 use Rattle.geo_script.specs.Words.{◌>>=◌}
-use Rattle.geo_script.proofs.Declarations.{head_line_is, head_line_read}
-use Rattle.geo_script.proofs.EventsRead.{line_read}
-use Rattle.geo_script.proofs.EventsSpelled.{IsRegions, line_asks}
-use Rattle.geo_script.proofs.Runs.{AreAdmitted, lawful_from, admitted_from}
-use Rattle.geo_script.proofs.ScriptLines.{no_begin as no_begin_line, IsHead, head_is, head_read, AreEvents, title_is, title_read, regions_is, regions_read, lines_are, lines_read}
-
--- ---- lines that say something
-
-spoken_append : (number : ℕ) (front back : List (List ℕ)) → spoken_from number (front ++ back) ≡ spoken_from number front ++ spoken_from (number + length front) back
-spoken_append number [] back = ap (λ n. spoken_from n back) (sym (add-zero number))
-spoken_append number (line ∷ front) back = by (is_silent line) (spoken_append (number + 1) front back)
-  where
-    next : spoken_from (number + 1 + length front) back ≡ spoken_from (number + length (line ∷ front)) back
-    next = ap (λ n. spoken_from n back) (omega arith)
-
-    by : (b : Bool) → spoken_from (number + 1) (front ++ back) ≡ spoken_from (number + 1) front ++ spoken_from (number + 1 + length front) back →
-        cond b (spoken_from (number + 1) (front ++ back)) ((number, line) ∷ spoken_from (number + 1) (front ++ back))
-        ≡ cond b (spoken_from (number + 1) front) ((number, line) ∷ spoken_from (number + 1) front) ++ spoken_from (number + length (line ∷ front)) back
-    by true more = more ∙ ap (λ ls. spoken_from (number + 1) front ++ ls) next
-    by false more = ap (λ ls. (number, line) ∷ ls) (more ∙ ap (λ ls. spoken_from (number + 1) front ++ ls) next)
-
-spoken_at : (number : ℕ) (front : List (List ℕ)) (line : List ℕ) (more : List (List ℕ)) → is_silent line ≡ false →
-    spoken_from number (front ++ line ∷ more) ≡ spoken_from number front ++ (number + length front, line) ∷ spoken_from (number + length front + 1) more
-spoken_at number front line more speaks = spoken_append number front (line ∷ more) ∙ ap (λ ls. spoken_from number front ++ ls) (rw speaks refl)
-
--- the line of a place among those that say something, and the lines before it
-record IsSpokenAt (number : ℕ) (lines : List (List ℕ)) (good : List (ℕ × List ℕ)) (here : ℕ × List ℕ) : Type 0 where
-  front : List (List ℕ)
-  more : List (List ℕ)
-  cut : lines ≡ front ++ here.1 ∷ more
-  before : spoken_from number front ≡ good
-  place : here.0 ≡ number + length front
-  speaks : is_silent here.1 ≡ false
-
-spoken_cut : (number : ℕ) (lines : List (List ℕ)) (good : List (ℕ × List ℕ)) (here : ℕ × List ℕ) (rest : List (ℕ × List ℕ)) → spoken_from number lines ≡ good ++ here ∷ rest →
-    IsSpokenAt number lines good here
-spoken_cut number [] [] here rest is = cc
-spoken_cut number [] (first ∷ good) here rest is = cc
-spoken_cut number (line ∷ lines) good here rest is = by (is_silent line) refl is (λ others found. spoken_cut (number + 1) lines others here rest found)
-  where
-    onto : (others : List (ℕ × List ℕ)) (found : IsSpokenAt (number + 1) lines others here) (front : spoken_from number (line ∷ found.front) ≡ good) → IsSpokenAt number (line ∷ lines) good here
-    onto others found front = record {
-      front = line ∷ found.front;
-      more = found.more;
-      cut = ap (λ ls. line ∷ ls) found.cut;
-      before = front;
-      place = found.place ∙ omega arith;
-      speaks = found.speaks;
-    }
-
-    loud : is_silent line ≡ false → (g : List (ℕ × List ℕ)) → g ≡ good → (number, line) ∷ spoken_from (number + 1) lines ≡ g ++ here ∷ rest →
-        ((others : List (ℕ × List ℕ)) → spoken_from (number + 1) lines ≡ others ++ here ∷ rest → IsSpokenAt (number + 1) lines others here) → IsSpokenAt number (line ∷ lines) good here
-    loud speaks [] same found later =
-        let first : (number, line) ≡ here = cc in
-        record {
-          front = [];
-          more = lines;
-          cut = ap (λ (h : ℕ × List ℕ). h.1 ∷ lines) first;
-          before = same;
-          place = ap (λ (h : ℕ × List ℕ). h.0) (sym first) ∙ sym (add-zero number);
-          speaks = subst (λ (h : ℕ × List ℕ). is_silent h.1 ≡ false) first speaks;
-        }
-    loud speaks (first ∷ others) same found later =
-        let one : (number, line) ≡ first = cc in
-        let tail = later others cc in
-        onto others tail (rw speaks (ap (λ ls. (number, line) ∷ ls) tail.before ∙ (ap (λ x. x ∷ others) one ∙ same)))
-
-    by : (b : Bool) → is_silent line ≡ b → cond b (spoken_from (number + 1) lines) ((number, line) ∷ spoken_from (number + 1) lines) ≡ good ++ here ∷ rest →
-        ((others : List (ℕ × List ℕ)) → spoken_from (number + 1) lines ≡ others ++ here ∷ rest → IsSpokenAt (number + 1) lines others here) → IsSpokenAt number (line ∷ lines) good here
-    by true silent found later = let tail = later good found in onto good tail (rw silent tail.before)
-    by false speaks found later = loud speaks good refl found later
-
--- ---- faults of the head
-
-at_err : {A B : Type 0} (line : ℕ) (r : Read A) (next : A → Checked B) (kind : ScriptKind) → r ≡ Err kind → (at line r >>= next) ≡ bad line kind
-at_err line r next kind is = rw is refl
-
--- the lines are read up to one that is wrong behind them
-record StopsInHead (tables : List TableDef) (lines : List (ℕ × List ℕ)) (fault : ScriptFault) : Type 0 where
-  good : List (ℕ × List ℕ)
-  all : List TableDef
-  here : ℕ × List ℕ
-  rest : List (ℕ × List ℕ)
-  cut : lines ≡ good ++ here ∷ rest
-  declared : AreDeclared tables good all
-  no_begin : here.1 ≢ codes "begin"
-  wrong : table_line all here.1 ≡ Err fault.kind
-  line : fault.line ≡ here.0
-
--- all lines declare, and none ends the head
-record LacksBegin (after : ℕ) (tables : List TableDef) (lines : List (ℕ × List ℕ)) (fault : ScriptFault) : Type 0 where
-  all : List TableDef
-  declared : AreDeclared tables lines all
-  line : fault.line ≡ after
-  kind : fault.kind ≡ MissingBegin
-
-head_stops : (after : ℕ) (tables : List TableDef) (lines : List (ℕ × List ℕ)) (fault : ScriptFault) → head_of after tables lines ≡ Err fault →
-    LacksBegin after tables lines fault ⊎ StopsInHead tables lines fault
-head_stops after tables [] fault is =
-    let same : record { line = after; kind = MissingBegin } ≡ fault = cc in
-    inl record { all = tables; declared = refl; line = ap (λ (f : ScriptFault). f.line) (sym same); kind = ap (λ (f : ScriptFault). f.kind) (sym same) }
-head_stops after tables (line ∷ lines) fault is =
-    by (bytes_eq line.1 (codes "begin")) refl is (table_line tables line.1) refl (λ more found. head_stops after more lines fault found)
-  where
-    onto : (more : List TableDef) → table_line tables line.1 ≡ Ok more → (LacksBegin after more lines fault ⊎ StopsInHead more lines fault) →
-        LacksBegin after tables (line ∷ lines) fault ⊎ StopsInHead tables (line ∷ lines) fault
-    onto more read (inl lacks) =
-        let here = head_line_is tables line.1 more read in
-        inl record { all = lacks.all; declared = (more, IsUtf8-from_is_utf8 line.1 here.utf8, here.declares, here.schema, lacks.declared); line = lacks.line; kind = lacks.kind }
-    onto more read (inr stops) =
-        let here = head_line_is tables line.1 more read in
-        inr record {
-          good = line ∷ stops.good;
-          all = stops.all;
-          here = stops.here;
-          rest = stops.rest;
-          cut = ap (λ ls. line ∷ ls) stops.cut;
-          declared = (more, IsUtf8-from_is_utf8 line.1 here.utf8, here.declares, here.schema, stops.declared);
-          no_begin = stops.no_begin;
-          wrong = stops.wrong;
-          line = stops.line;
-        }
-
-    by : (b : Bool) → bytes_eq line.1 (codes "begin") ≡ b →
-        cond b (Ok (tables, lines)) (at line.0 (table_line tables line.1) >>= λ more. head_of after more lines) ≡ Err fault →
-        (r : Read (List TableDef)) → table_line tables line.1 ≡ r →
-        ((more : List TableDef) → head_of after more lines ≡ Err fault → LacksBegin after more lines fault ⊎ StopsInHead more lines fault) →
-        LacksBegin after tables (line ∷ lines) fault ⊎ StopsInHead tables (line ∷ lines) fault
-    by true begins found r read later = cc
-    by false other found (Ok more) read later = onto more read (later more (ap (λ r. at line.0 r >>= λ t. head_of after t lines) (sym read) ∙ found))
-    by false other found (Err kind) read later =
-        let same : record { line = line.0; kind = kind } ≡ fault = cc (ap (λ r. at line.0 r >>= λ t. head_of after t lines) (sym read) ∙ found) in
-        inr record {
-          good = [];
-          all = tables;
-          here = line;
-          rest = lines;
-          cut = refl;
-          declared = refl;
-          no_begin = λ begin. false≢true (sym other ∙ (bytes_eq-Decides line.1 (codes "begin")).1 begin);
-          wrong = read ∙ ap (λ (f : ScriptFault). Err f.kind) same;
-          line = ap (λ (f : ScriptFault). f.line) (sym same);
-        }
-
--- a line that is wrong behind lines that declare is where the head stops
-head_wrong : (after number : ℕ) (tables all : List TableDef) (good : List (ℕ × List ℕ)) (line : List ℕ) (rest : List (ℕ × List ℕ)) (kind : ScriptKind) → AreDeclared tables good all →
-    line ≢ codes "begin" → table_line all line ≡ Err kind → head_of after tables (good ++ (number, line) ∷ rest) ≡ bad number kind
-head_wrong after number tables all [] line rest kind declared no_begin wrong =
-    let other : bytes_eq line (codes "begin") ≡ false = false_from_ne_true (bytes_eq line (codes "begin")) (λ is. no_begin ((bytes_eq-Decides line (codes "begin")).0 is)) in
-    rw other (rw (ap (λ t. table_line t line) (sym declared) ∙ wrong) refl)
-head_wrong after number tables all (first ∷ good) line rest kind (more, utf8, declares, schema, later) no_begin wrong =
-    rw (no_begin_here, read_here) (head_wrong after number more all good line rest kind later no_begin wrong)
-  where
-    no_begin_here : bytes_eq first.1 (codes "begin") ≡ false
-    no_begin_here = no_begin_line tables more first.1 declares
-
-    read_here : table_line tables first.1 ≡ Ok more
-    read_here = head_line_read tables first.1 more record { utf8 = is_utf8-from_IsUtf8 first.1 utf8; declares = declares; schema = schema }
-
--- ---- faults of events
-
--- the events of these lines are read, and the next line is wrong behind them
-record StopsInEvents (form : Form) (regions : ℕ) (past : RunPast) (lines : List (ℕ × List ℕ)) (fault : ScriptFault) : Type 0 where
-  good : List (ℕ × List ℕ)
-  events : List EventAt
-  here : ℕ × List ℕ
-  rest : List (ℕ × List ℕ)
-  cut : lines ≡ good ++ here ∷ rest
-  are : AreEvents form regions past good events
-  wrong : event_line form regions (past_behind past events) here.1 ≡ Err fault.kind
-  line : fault.line ≡ here.0
-
-events_stop : (form : Form) (regions : ℕ) → IsRegions regions → (past : RunPast) (lines : List (ℕ × List ℕ)) (fault : ScriptFault) → events_of form regions past lines ≡ Err fault →
-    StopsInEvents form regions past lines fault
-events_stop form regions lawful past [] fault is = cc
-events_stop form regions lawful past (line ∷ lines) fault is =
-    by (event_line form regions past line.1) refl is (λ event found. events_stop form regions lawful (with_event past event) lines fault found)
-  where
-    onto : (event : Event) → event_line form regions past line.1 ≡ Ok event → StopsInEvents form regions (with_event past event) lines fault → StopsInEvents form regions past (line ∷ lines) fault
-    onto event read stops =
-        let here = line_asks form regions lawful past line.1 event read in
-        record {
-          good = line ∷ stops.good;
-          events = record { line = line.0; event = event } ∷ stops.events;
-          here = stops.here;
-          rest = stops.rest;
-          cut = ap (λ ls. line ∷ ls) stops.cut;
-          are = record {
-            typed = (record { number = refl; utf8 = IsUtf8-from_is_utf8 line.1 here.utf8; typed = here.now.asks.typed; of_form = here.now.asks.of_form; within = here.now.asks.within }, stops.are.typed);
-            admitted = (here.now.admitted, stops.are.admitted);
-          };
-          wrong = stops.wrong;
-          line = stops.line;
-        }
-
-    later_err : (one : EventAt) (more : Checked (List EventAt)) → (more >>= λ events. Ok (one ∷ events)) ≡ Err fault → more ≡ Err fault
-    later_err one (Ok events) found = cc
-    later_err one (Err other) found = cc
-
-    by : (r : Read Event) → event_line form regions past line.1 ≡ r →
-        (at line.0 r >>= λ event. (events_of form regions (with_event past event) lines >>= λ events. Ok (record { line = line.0; event = event } ∷ events))) ≡ Err fault →
-        ((event : Event) → events_of form regions (with_event past event) lines ≡ Err fault → StopsInEvents form regions (with_event past event) lines fault) →
-        StopsInEvents form regions past (line ∷ lines) fault
-    by (Ok event) read found later =
-        onto event read (later event (later_err (record { line = line.0; event = event }) (events_of form regions (with_event past event) lines) found))
-    by (Err kind) read found later =
-        let same : record { line = line.0; kind = kind } ≡ fault = cc in
-        record {
-          good = [];
-          events = [];
-          here = line;
-          rest = lines;
-          cut = refl;
-          are = record { typed = tt; admitted = tt };
-          wrong = read ∙ ap (λ (f : ScriptFault). Err f.kind) same;
-          line = ap (λ (f : ScriptFault). f.line) (sym same);
-        }
-
--- a line that is wrong behind the lines of events is where they stop
-events_wrong : (form : Form) (regions : ℕ) → IsRegions regions → (past : RunPast) (good : List (ℕ × List ℕ)) (events : List EventAt) (number : ℕ) (line : List ℕ) (rest : List (ℕ × List ℕ))
-    (kind : ScriptKind) → AreEventLines form regions good events → AreAdmitted form past events → event_line form regions (past_behind past events) line ≡ Err kind →
-    events_of form regions past (good ++ (number, line) ∷ rest) ≡ bad number kind
-events_wrong form regions lawful past [] [] number line rest kind typed admitted wrong = rw wrong refl
-events_wrong form regions lawful past [] (event ∷ events) number line rest kind typed admitted wrong = absurd typed
-events_wrong form regions lawful past (first ∷ good) [] number line rest kind typed admitted wrong = absurd typed
-events_wrong form regions lawful past (first ∷ good) (event ∷ events) number line rest kind (here, typed) (now, admitted) wrong =
-    let read : event_line form regions past first.1 ≡ Ok event.event =
-    line_read form regions lawful past first.1 event.event (is_utf8-from_IsUtf8 first.1 here.utf8) here.typed here.of_form here.within now in
-    rw read (rw (events_wrong form regions lawful (with_event past event.event) good events number line rest kind typed admitted wrong) refl)
+use Rattle.geo_script.proofs.PlayLines.{IsRegions}
+use Rattle.geo_script.proofs.Runs.{lawful_from, admitted_from}
+use Rattle.geo_script.proofs.WrongDeclarations.{declaration_wrong, declaration_stops}
+use Rattle.geo_script.proofs.WrongHeads.{title_wrong, title_stops, count_wrong, count_stops}
+use Rattle.geo_script.proofs.WrongLines.{line_wrong, line_stops}
+use Rattle.geo_script.proofs.ScriptLines.{IsHead, head_is, head_read, title_is, title_read, regions_is, regions_read, lines_are, lines_read}
+use Rattle.geo_script.proofs.SpokenLines.{spoken_at, spoken_cut}
+use Rattle.geo_script.proofs.Stops.{StopsInHead, LacksBegin, head_stops, head_wrong, StopsInEvents, events_stop, events_wrong}
 
 -- ---- lines that begin a script
 
@@ -348,7 +121,8 @@ wrong_head : (form : Form) (first second : List ℕ) (body : List (List ℕ)) (l
 unfolding script_of_lines body_of
 wrong_head form first second body line more kind header wrong =
     rw (header.title, header.count) (rw (title_read form) (rw (regions_read header.regions header.lawful) (rw (spoken_at 3 body line more wrong.speaks)
-    (rw (head_wrong (3 + length (body ++ line ∷ more)) (3 + length body) [] wrong.tables (spoken_from 3 body) line (spoken_from (3 + length body + 1) more) kind wrong.declared wrong.no_begin wrong.wrong) refl))))
+    (rw (head_wrong (3 + length (body ++ line ∷ more)) (3 + length body) [] wrong.tables (spoken_from 3 body) line (spoken_from (3 + length body + 1) more) kind wrong.declared wrong.no_begin
+    (declaration_stops wrong.tables line kind wrong.wrong)) refl))))
 
 wrong_event : (form : Form) (first second : List ℕ) (body : List (List ℕ)) (line : List ℕ) (more : List (List ℕ)) (kind : ScriptKind) → first ≡ title form → IsWrongEvent form second body line kind →
     script_of_lines form (first ∷ second ∷ (body ++ line ∷ more)) ≡ bad (3 + length body) kind
@@ -362,7 +136,8 @@ wrong_event form first second body line more kind title wrong =
     rw (title, wrong.count) (rw (title_read form) (rw (regions_read wrong.regions lawful) (rw spoken
     (rw (head_read after wrong.number [] wrong.tables wrong.heads (wrong.tails ++ later) wrong.declared)
     (rw (events_wrong form wrong.regions lawful nothing_yet wrong.tails wrong.events (3 + length body) line (spoken_from (3 + length body + 1) more) kind
-    wrong.typed (admitted_from form wrong.events wrong.lawful) wrong.wrong) refl)))))
+    wrong.typed (admitted_from form wrong.events wrong.lawful)
+    (line_stops form wrong.regions lawful (past_behind form nothing_yet wrong.events) line kind wrong.wrong)) refl)))))
 
 wrong_title : (form : Form) (line : List ℕ) (more : List (List ℕ)) (kind : ScriptKind) → title_line form line ≡ Err kind → script_of_lines form (line ∷ more) ≡ bad 1 kind
 unfolding script_of_lines
@@ -377,8 +152,8 @@ wrong_count form first line more kind title is = rw title (rw (title_read form) 
 -- a line that is wrong behind lines that begin a script is where it stops, whatever stands behind it
 pub wrong_stops : (form : Form) (before : List (List ℕ)) (line : List ℕ) (more : List (List ℕ)) (kind : ScriptKind) → BeginsScript form before → IsWrong form before line kind →
     script_of_lines form (before ++ line ∷ more) ≡ bad (length before + 1) kind
-wrong_stops form [] line more kind begins wrong = wrong_title form line more kind wrong
-wrong_stops form (first ∷ []) line more kind begins wrong = wrong_count form first line more kind (title_of form first begins) wrong
+wrong_stops form [] line more kind begins wrong = wrong_title form line more kind (title_stops form line kind wrong)
+wrong_stops form (first ∷ []) line more kind begins wrong = wrong_count form first line more kind (title_of form first begins) (count_stops line kind wrong)
 wrong_stops form (first ∷ second ∷ body) line more kind begins (inl wrong) =
     let n : 3 + length body ≡ length (first ∷ second ∷ body) + 1 = omega arith in
     wrong_head form first second body line more kind (header_of form first second body begins) wrong ∙ ap (λ k. bad k kind) n
@@ -437,7 +212,7 @@ in_head form first second body fault regions title count lawful stops =
     bad_line form (first ∷ second ∷ body) (first ∷ second ∷ here.front) stops.here.1 here.more fault (ap (λ ls. first ∷ second ∷ ls) here.cut)
     (with_header form first second here.front regions title count (head_begins form regions here.front stops.all lawful declared))
     (stops.line ∙ (here.place ∙ omega arith))
-    (inl record { tables = stops.all; declared = declared; speaks = here.speaks; no_begin = stops.no_begin; wrong = stops.wrong })
+    (inl record { tables = stops.all; declared = declared; speaks = here.speaks; no_begin = stops.no_begin; wrong = declaration_wrong stops.all stops.here.1 fault.kind stops.wrong })
 
 in_events : (form : Form) (first second : List ℕ) (body : List (List ℕ)) (fault : ScriptFault) (regions : ℕ) (tables : List TableDef) (tails : List (ℕ × List ℕ)) → first ≡ title form →
     second ≡ codes "regions " ++ decimal regions → IsRegions regions → IsHead [] (spoken_from 3 body) tables tails → StopsInEvents form regions nothing_yet tails fault →
@@ -467,7 +242,7 @@ in_events form first second body fault regions tables tails title count lawful h
       typed = stops.are.typed;
       lawful = may;
       speaks = here.speaks;
-      wrong = stops.wrong;
+      wrong = line_wrong form regions lawful (past_behind form nothing_yet stops.events) stops.here.1 fault.kind stops.wrong;
     })
 
 -- the script of a head and events
@@ -511,7 +286,7 @@ first_bad form (first ∷ []) fault is = by (title_line form first) refl is
         inl (lacks_line form (first ∷ []) fault is (title_begins form first (title_is form first x read)) (ap (λ (f : ScriptFault). f.line) (sym same)) (ap (λ (f : ScriptFault). f.kind) (sym same)))
     by (Err kind) read found =
         let same : record { line = 1; kind = kind } ≡ fault = cc in
-        inr (bad_line form (first ∷ []) [] first [] fault refl (nothing_begins form) (ap (λ (f : ScriptFault). f.line) (sym same)) (read ∙ ap (λ (f : ScriptFault). Err f.kind) same))
+        inr (bad_line form (first ∷ []) [] first [] fault refl (nothing_begins form) (ap (λ (f : ScriptFault). f.line) (sym same)) (title_wrong form first fault.kind (read ∙ ap (λ (f : ScriptFault). Err f.kind) same)))
 first_bad form (first ∷ second ∷ body) fault is = by (title_line form first) refl is
   where
     count : first ≡ title form → (r : Read ℕ) → regions_line second ≡ r → (at 2 r >>= λ regions. body_of form regions body) ≡ Err fault → IsFirstBad form (first ∷ second ∷ body) fault
@@ -520,14 +295,14 @@ first_bad form (first ∷ second ∷ body) fault is = by (title_line form first)
     count title (Err kind) read found =
         let same : record { line = 2; kind = kind } ≡ fault = cc in
         inr (bad_line form (first ∷ second ∷ body) (first ∷ []) second body fault refl (title_begins form first title) (ap (λ (f : ScriptFault). f.line) (sym same))
-        (read ∙ ap (λ (f : ScriptFault). Err f.kind) same))
+        (count_wrong second fault.kind (read ∙ ap (λ (f : ScriptFault). Err f.kind) same)))
 
     by : (r : Read (Unit {0})) → title_line form first ≡ r → (at 1 r >>= λ _. (at 2 (regions_line second) >>= λ regions. body_of form regions body)) ≡ Err fault → IsFirstBad form (first ∷ second ∷ body) fault
     by (Ok x) read found = count (title_is form first x read) (regions_line second) refl found
     by (Err kind) read found =
         let same : record { line = 1; kind = kind } ≡ fault = cc in
         inr (bad_line form (first ∷ second ∷ body) [] first (second ∷ body) fault refl (nothing_begins form) (ap (λ (f : ScriptFault). f.line) (sym same))
-        (read ∙ ap (λ (f : ScriptFault). Err f.kind) same))
+        (title_wrong form first fault.kind (read ∙ ap (λ (f : ScriptFault). Err f.kind) same)))
 
 -- ---- and back
 

@@ -9,6 +9,7 @@ pub mod Inversions
 pub mod Cuts
 pub mod Decimals
 pub mod VerbTexts
+pub mod PlayLines
 pub mod EventsSpelled
 pub mod EventsRead
 pub mod Columns
@@ -17,5 +18,13 @@ pub mod NameTokens
 pub mod Declarations
 pub mod Runs
 pub mod ScriptLines
+pub mod SpokenLines
+pub mod Stops
+pub mod Failures
+pub mod WrongHeads
+pub mod WrongDeclarations
+pub mod EventWords
+pub mod WrongEvents
+pub mod WrongLines
 pub mod FirstBad
 pub mod Answered

@@ -1,16 +1,12 @@
 -- Lists of items that are each read, and lists in parentheses.
-use Rattle.std.proofs.Common.{◌≡◌, ℕ, ◌+◌, ◌<◌, ◌≤◌, List, [], ◌∷◌, ◌++◌, length, drop, get_or, map, Option, Some, None, refl, sym, ap, ◌∙◌, arith, append_assoc, Bor}
-use Rattle.std.proofs.lemmas.List.{drop_more, drop_all, append-nil, get_or-map, length-map}
+use Rattle.std.proofs.Common.{◌≡◌, ℕ, ◌+◌, ◌<◌, List, [], ◌∷◌, ◌++◌, length, drop, get_or, map, Option, Some, None, refl, sym, ap, ◌∙◌, arith, append_assoc, Bor}
+use Rattle.std.proofs.lemmas.List.{drop_more, get_or-map, length-map}
 use Rattle.std.specs.Option.{option_map}
 use Rattle.geo_script.specs.TableLines.{each}
 
 -- what was read of the first items, and then what each of the others is
 abbrev pub behind : {B : Type 0} → List B → Option (List B) → Option (List B)
 behind read more = option_map (λ items. read ++ items) more
-
-behind_nothing : {B : Type 0} (more : Option (List B)) → more ≡ behind [] more
-behind_nothing None = refl
-behind_nothing (Some items) = refl
 
 behind_one : {B : Type 0} (read : List B) (x : B) (more : Option (List B)) → behind read (option_map (λ items. x ∷ items) more) ≡ behind (read ++ x ∷ []) more
 behind_one read x None = refl
@@ -19,9 +15,6 @@ behind_one read x (Some items) = ap Some (sym (append_assoc read (x ∷ []) item
 -- the first items were read, and these are what they are
 abbrev pub AreRead : {A B : Type 0} → (A → Option B) → List A → List B → ℕ → Type 0
 AreRead of items read place = each of items ≡ behind read (each of (drop place items))
-
-pub none_read : {A B : Type 0} (of : A → Option B) (items : List A) → AreRead of items [] 0
-none_read of items = behind_nothing (each of items)
 
 pub one_read : {A B : Type 0} (of : A → Option B) (items : List A) (read : List B) (place : ℕ) (item : A) (x : B) → place < length items →
     AreRead of items read place → get_or items place item ≡ item → of item ≡ Some x → AreRead of items (read ++ x ∷ []) (place + 1)
@@ -34,10 +27,6 @@ pub not_read : {A B : Type 0} (of : A → Option B) (items : List A) (read : Lis
     AreRead of items read place → get_or items place item ≡ item → of item ≡ None → each of items ≡ None
 not_read of items read place item within before at is =
     before ∙ (ap (λ rest. behind read (each of rest)) (drop_more items place item within) ∙ rw (at, is) refl)
-
-pub all_read : {A B : Type 0} (of : A → Option B) (items : List A) (read : List B) (place : ℕ) → length items ≤ place → AreRead of items read place → each of items ≡ Some read
-all_read of items read place past before =
-    before ∙ (ap (λ rest. behind read (each of rest)) (drop_all place items past) ∙ ap Some (append-nil read))
 
 -- ---- the same of items that are lent
 

@@ -15,14 +15,14 @@ use Rattle.geo_script.specs.declared.limits.TheConstants.{SESSIONS_PER_RUN}
 use Rattle.geo_script.specs.declared.script.EventAt.{EventAt}
 use Rattle.geo_script.specs.declared.script.Form.{Form}
 use Rattle.geo_script.specs.declared.script.Form.TheVariants.{Play, Run}
-use Rattle.geo_script.specs.Past.{RunPast, nothing_yet, same_session, has_session, with_session, with_event}
+use Rattle.geo_script.specs.Past.{RunPast, nothing_yet, same_session, has_session, with_session, with_event, next_past}
 use Rattle.geo_script.specs.Spelling.{session_of, crashed_of, along, IsLawful}
 use Rattle.geo_script.proofs.EventsSpelled.{IsAdmitted}
 
 -- each event may stand behind those before it
 abbrev pub AreAdmitted : Form → RunPast → List EventAt → Type 0
 AreAdmitted form past [] = Unit {0}
-AreAdmitted form past (first ∷ events) = IsAdmitted form past first.event × AreAdmitted form (with_event past first.event) events
+AreAdmitted form past (first ∷ events) = IsAdmitted form past first.event × AreAdmitted form (next_past form past first.event) events
 
 -- ---- crashes
 
@@ -291,7 +291,7 @@ run_admitted past all (first ∷ events) lawful =
 
 play_admitted : (past : RunPast) (events : List EventAt) → AreAdmitted Play past events
 play_admitted past [] = tt
-play_admitted past (first ∷ events) = (tt, play_admitted (with_event past first.event) events)
+play_admitted past (first ∷ events) = (tt, play_admitted past events)
 
 nothing_distinct : {A : Type 0} (same : A → A → Bool) → IsDistinct same []
 unfolding IsDistinct

@@ -18,7 +18,7 @@ use Rattle.geo_script.specs.declared.script.Form.TheVariants.{Play, Run}
 use Rattle.geo_script.specs.declared.script.Script.{Script}
 use Rattle.geo_script.specs.EventLines.{Read, number, event_line}
 use Rattle.geo_script.specs.Lines.{lines_of, spoken_from}
-use Rattle.geo_script.specs.Past.{RunPast, nothing_yet, with_event}
+use Rattle.geo_script.specs.Past.{RunPast, nothing_yet, next_past}
 use Rattle.geo_script.specs.Scripts.{bad, at, title, title_line, regions_word, regions_line, head_of, events_of, body_of, script_of_lines, script_of}
 use Rattle.geo_script.specs.Spelling.{Declares, AreDeclared, AreEventLines, IsScript, IsScriptText}
 use Rattle.geo_script.specs.TableLines.{table_line}
@@ -27,7 +27,8 @@ use Rattle.geo_script.proofs.Cuts.{cut_at, cut_parts}
 use Rattle.geo_script.proofs.Decimals.{decimal_word, number_read}
 use Rattle.geo_script.proofs.Declarations.{head_line_is, head_line_read, begin_declares_nothing}
 use Rattle.geo_script.proofs.EventsRead.{line_read}
-use Rattle.geo_script.proofs.EventsSpelled.{IsRegions, number_is, line_asks}
+use Rattle.geo_script.proofs.EventsSpelled.{line_asks}
+use Rattle.geo_script.proofs.PlayLines.{IsRegions, number_is}
 use Rattle.geo_script.proofs.Inversions.{step_ok, or_ok, if_ok, when_ok}
 use Rattle.geo_script.proofs.Runs.{AreAdmitted, lawful_from, admitted_from}
 
@@ -101,8 +102,8 @@ events_are form regions lawful past [] (event ∷ events) is = cc
 events_are form regions lawful past (line ∷ lines) events is =
     let first = step_ok (at line.0 (event_line form regions past line.1)) _ events is in
     let here = line_asks form regions lawful past line.1 first.0 (at_ok line.0 (event_line form regions past line.1) first.0 first.1) in
-    let later = step_ok (events_of form regions (with_event past first.0) lines) _ events first.2 in
-    let rest = events_are form regions lawful (with_event past first.0) lines later.0 later.1 in
+    let later = step_ok (events_of form regions (next_past form past first.0) lines) _ events first.2 in
+    let rest = events_are form regions lawful (next_past form past first.0) lines later.0 later.1 in
     let one : EventAt = record { line = line.0; event = first.0 } in
     let same : one ∷ later.0 ≡ events = cc in
     subst (AreEvents form regions past (line ∷ lines)) same record {
@@ -118,7 +119,7 @@ events_read form regions lawful past (line ∷ lines) [] typed admitted = absurd
 events_read form regions lawful past (line ∷ lines) (event ∷ events) (here, rest) admitted =
     let read : event_line form regions past line.1 ≡ Ok event.event =
     line_read form regions lawful past line.1 event.event (is_utf8-from_IsUtf8 line.1 here.utf8) here.typed here.of_form here.within admitted.0 in
-    rw read (rw (events_read form regions lawful (with_event past event.event) lines events rest admitted.1)
+    rw read (rw (events_read form regions lawful (next_past form past event.event) lines events rest admitted.1)
     (ap (λ n. Ok (record { line = n; event = event.event } ∷ events)) (sym here.number)))
 
 -- ---- the first two lines

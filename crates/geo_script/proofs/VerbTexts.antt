@@ -1,28 +1,15 @@
 -- The verbs that words are.
 use Rattle.std.proofs.Common.{◌≡◌, ℕ, Bool, true, false, cond, List, [], ◌∷◌, ◌++◌, Some, refl, sym, ap, ◌∙◌}
-use Rattle.std.specs.Prelude.{codes}
 use Rattle.std.specs.Str.{bytes_eq}
 use Rattle.std.proofs.lemmas.Slice.Eq.{bytes_eq-Decides}
 use Rattle.geo_script.specs.declared.verb.Verb.{Verb}
 use Rattle.geo_script.specs.declared.verb.Verb.TheVariants.{Sql, Outcome, Seal, Deliver, Fetch, Work, Publish, Show, Crash, Restart}
 use Rattle.geo_script.specs.EventLines.{verb_and_rest}
+use Rattle.geo_script.specs.EventWords.{verb_text}
 use Rattle.geo_script.specs.Verbs.{verbs, lookup, verb_of}
 use Rattle.geo_script.specs.Words.{cut}
 use Rattle.geo_script.proofs.Cuts.{Lacks, cut_at, cut_parts}
 use Rattle.geo_script.proofs.Inversions.{then_some}
-
--- the verb as it is written
-abbrev pub verb_text : Verb → List ℕ
-verb_text Sql = codes "sql"
-verb_text Outcome = codes "outcome"
-verb_text Seal = codes "seal"
-verb_text Deliver = codes "deliver"
-verb_text Fetch = codes "fetch"
-verb_text Work = codes "work"
-verb_text Publish = codes "publish"
-verb_text Show = codes "show"
-verb_text Crash = codes "crash"
-verb_text Restart = codes "restart"
 
 verb_read : (verb : Verb) → verb_of (verb_text verb) ≡ Some verb
 unfolding verb_of verbs

@@ -1,5 +1,5 @@
 -- The first bad line of a text that is no script.
-use Rattle.std.specs.Prelude.{◌≡◌, ◌≢◌, ◌⊎◌, ℕ, ◌+◌, ◌<◌, ◌≤◌, false, List, [], ◌∷◌, ◌++◌, length, codes, Err}
+use Rattle.std.specs.Prelude.{◌≡◌, ◌≢◌, ◌⊎◌, ℕ, ◌+◌, ◌<◌, ◌≤◌, false, List, [], ◌∷◌, ◌++◌, length, codes}
 use Rattle.std.specs.Fmt.{decimal}
 use Rattle.geo_base.specs.declared.limits.TheConstants.{MAX_REGIONS, SCRIPT_BYTES}
 use Rattle.geo_schema.specs.declared.table.TableDef.{TableDef}
@@ -11,12 +11,10 @@ use Rattle.geo_script.specs.declared.fault.ScriptKind.TheVariants.{TooLong, BadH
 use Rattle.geo_script.specs.declared.script.EventAt.{EventAt}
 use Rattle.geo_script.specs.declared.script.Form.{Form}
 use Rattle.geo_script.specs.declared.script.Script.{Script}
-use Rattle.geo_script.specs.EventLines.{event_line}
 use Rattle.geo_script.specs.Lines.{lines_of, is_silent, spoken_from}
 use Rattle.geo_script.specs.Past.{nothing_yet, past_behind}
-use Rattle.geo_script.specs.Scripts.{title_line, regions_line}
 use Rattle.geo_script.specs.Spelling.{AreDeclared, AreEventLines, IsLawful, IsScript}
-use Rattle.geo_script.specs.TableLines.{table_line}
+use Rattle.geo_script.specs.Wrongs.{IsWrongTitle, IsWrongCount, IsWrongDeclaration, IsWrongLine}
 
 -- the lines begin a script: with some lines behind them they are one
 abbrev pub BeginsScript : Form → List (List ℕ) → Type 0
@@ -30,7 +28,7 @@ pub record IsWrongHead (body : List (List ℕ)) (line : List ℕ) (kind : Script
   pub declared : AreDeclared [] (spoken_from 3 body) tables
   pub speaks : is_silent line ≡ false
   pub no_begin : line ≢ codes "begin"
-  pub wrong : table_line tables line ≡ Err kind
+  pub wrong : IsWrongDeclaration tables line kind
 
 -- behind a whole head and the lines of some events, the line says something, and has this kind of fault
 pub record IsWrongEvent (form : Form) (second : List ℕ) (body : List (List ℕ)) (line : List ℕ) (kind : ScriptKind) : Type 0 where
@@ -48,12 +46,12 @@ pub record IsWrongEvent (form : Form) (second : List ℕ) (body : List (List ℕ
   pub typed : AreEventLines form regions tails events
   pub lawful : IsLawful form events
   pub speaks : is_silent line ≡ false
-  pub wrong : event_line form regions (past_behind nothing_yet events) line ≡ Err kind
+  pub wrong : IsWrongLine form regions (past_behind form nothing_yet events) line kind
 
 -- behind these lines, which begin a script, the line has this kind of fault
 abbrev pub IsWrong : Form → List (List ℕ) → List ℕ → ScriptKind → Type 0
-IsWrong form [] line kind = title_line form line ≡ Err kind
-IsWrong form (first ∷ []) line kind = regions_line line ≡ Err kind
+IsWrong form [] line kind = IsWrongTitle form line kind
+IsWrong form (first ∷ []) line kind = IsWrongCount line kind
 IsWrong form (first ∷ second ∷ body) line kind = IsWrongHead body line kind ⊎ IsWrongEvent form second body line kind
 
 -- ---- which line is at fault

@@ -8,4 +8,6 @@ pub mod TableLines
 pub mod Scripts
 pub mod Spelling
 pub mod Answers
+pub mod EventWords
+pub mod Wrongs
 pub mod Faults

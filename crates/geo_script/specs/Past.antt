@@ -3,6 +3,8 @@ use Rattle.std.specs.Prelude.{ℕ, Bool, ◌&&◌, nat_eq, if◌then◌else◌, 
 use Rattle.std.specs.List.{list_any}
 use Rattle.geo_script.specs.declared.event.Event.{Event}
 use Rattle.geo_script.specs.declared.script.EventAt.{EventAt}
+use Rattle.geo_script.specs.declared.script.Form.{Form}
+use Rattle.geo_script.specs.declared.script.Form.TheVariants.{Play, Run}
 use Rattle.geo_script.specs.declared.event.Event.TheVariants.{Sql, CrashAfter}
 
 -- the regions that crash, and the sessions, each once and in the order in which they came
@@ -34,7 +36,12 @@ with_event past (Sql region session _) = with_session past region session
 with_event past (CrashAfter region _) = record past { crashed = past.crashed ++ region ∷ [] }
 with_event past _ = past
 
--- the past with these events more
-abbrev pub past_behind : RunPast → List EventAt → RunPast
-past_behind past [] = past
-past_behind past (at ∷ events) = past_behind (with_event past at.event) events
+-- the past that the next line of the form is read with: of a play nothing has to be known
+abbrev pub next_past : Form → RunPast → Event → RunPast
+next_past Play past asked = past
+next_past Run past asked = with_event past asked
+
+-- the past behind these events
+abbrev pub past_behind : Form → RunPast → List EventAt → RunPast
+past_behind form past [] = past
+past_behind form past (at ∷ events) = past_behind form (next_past form past at.event) events

@@ -12,7 +12,7 @@ use Rattle.geo_script.specs.declared.script.Form.TheVariants.{Play, Run}
 use Rattle.geo_script.specs.declared.script.Script.{Script}
 use Rattle.geo_script.specs.EventLines.{Read, number, event_line}
 use Rattle.geo_script.specs.Lines.{lines_of, spoken_from}
-use Rattle.geo_script.specs.Past.{RunPast, nothing_yet, with_event}
+use Rattle.geo_script.specs.Past.{RunPast, nothing_yet, next_past}
 use Rattle.geo_script.specs.TableLines.{table_line}
 use Rattle.geo_script.specs.Words.{◌>>=◌, cut, is_word}
 
@@ -64,7 +64,7 @@ abbrev pub events_of : Form → ℕ → RunPast → List (ℕ × List ℕ) → C
 events_of form regions past [] = Ok []
 events_of form regions past (line ∷ lines) =
     at line.0 (event_line form regions past line.1) >>= λ event.
-    (events_of form regions (with_event past event) lines >>= λ events. Ok (record { line = line.0; event = event } ∷ events))
+    (events_of form regions (next_past form past event) lines >>= λ events. Ok (record { line = line.0; event = event } ∷ events))
 
 -- ---- the whole
 

@@ -34,7 +34,9 @@ pub enum ScriptKind {
 /// The first bad line of a script, counted from 1, and what is wrong with it.
 #[derive(Clone, Copy, Debug, PartialEq, Eq)]
 pub struct ScriptFault {
+    /// Counted from 1; 0 where the whole text is too long, and the line after the last where one is missing.
     pub line: u32,
+    /// The first thing that is wrong with the line.
     pub kind: ScriptKind,
 }
 
@@ -43,6 +45,7 @@ pub struct ScriptFault {
 pub enum ReadFault {
     /// The bytes are no script.
     Script(ScriptFault),
+    /// There was no memory for what was read.
     NoMemory,
 }
 

@@ -16,7 +16,8 @@ pub fn scripts_are_their_texts()
 {}
 
 /// A text has a fault exactly where it is too long, or where the lines before one begin a script and with
-/// that line, or without any more lines, they are none.
+/// that line, or without any more lines, they are none. What is wrong with a bad line is the first of the kinds
+/// of fault that it has, each said of the line itself.
 pub fn faults_are_first_bad_lines()
     ensures { (form : Form) (bytes : List ℕ) (fault : ScriptFault) →
         (script_of form bytes ≡ Err fault) ↔ IsFault form bytes fault }

@@ -2,6 +2,7 @@ ghost use Rattle.std.specs.Prelude.{◌≡◌, length, OnOk};
 ghost use Rattle.geo_script.specs.Past as spec;
 
 use crate::event::Event;
+use crate::script::Form;
 use geo_base::{NoMemory, RegionNo};
 use std::alloc::Global;
 use std::marker::Model;
@@ -55,8 +56,17 @@ impl Past {
         self.sessions.len()
     }
 
-    /// One event more.
-    pub fn add(&mut self, event: &Event) -> Result<(), NoMemory>
+    /// One event more. Of a play nothing has to be known.
+    pub fn add(&mut self, form: Form, event: &Event) -> Result<(), NoMemory>
+        ensures { OnOk result (self.new ≡ spec.next_past form self.old event.now) }
+    {
+        match form {
+            Form::Play => Ok(()),
+            Form::Run => self.add_event(event),
+        }
+    }
+
+    fn add_event(&mut self, event: &Event) -> Result<(), NoMemory>
         ensures { OnOk result (self.new ≡ spec.with_event self.old event.now) }
     {
         match event {

@@ -16,7 +16,9 @@ pub enum Form {
 /// An event and the number of its line, counted from 1.
 #[derive(Debug, Drop, PartialEq, Eq)]
 pub struct EventAt {
+    /// From 4 on: a head has at least three lines.
     pub line: u32,
+    /// What the line asks for.
     pub event: Event,
 }
 
@@ -36,12 +38,14 @@ impl Model for EventAtList {
 }
 
 impl EventAtList {
+    /// The list of these events, in their order.
     pub fn new(items: Vec<EventAt>) -> EventAtList
         ensures { result ≡ items.items }
     {
         EventAtList { items }
     }
 
+    /// The events, in the order of their lines.
     pub fn items(&self) -> &[EventAt]
         ensures { result.now ≡ self.now }
     {
@@ -49,10 +53,13 @@ impl EventAtList {
     }
 }
 
-/// A script that was read: the number of regions, 1 to 8, the tables and the events.
+/// A script that was read.
 #[derive(Debug, Drop)]
 pub struct Script {
+    /// How many regions there are, 1 to 8.
     pub regions: u8,
+    /// The tables and their indexes, in the order of their lines.
     pub schema: Schema,
+    /// The events, in the order of their lines.
     pub events: EventAtList,
 }

@@ -20,12 +20,14 @@ impl Model for Word {
 }
 
 impl Word {
+    /// The word with this text.
     pub fn new(text: String) -> Word
         ensures { result ≡ string_bytes text }
     {
         Word { text }
     }
 
+    /// The text, as it was typed.
     pub fn text(&self) -> &str
         ensures { result.now ≡ self.now }
     {

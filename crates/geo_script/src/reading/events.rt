@@ -176,7 +176,7 @@ pub fn read_events(
             Ok(event) => event,
             Err(kind) => return Err(bad(next.number, kind)),
         };
-        past.add(&event)?;
+        past.add(form, &event)?;
         let line = next.number;
         events.push(EventAt { line, event })?;
         behind = next.rest;
