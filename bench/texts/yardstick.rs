@@ -1,7 +1,7 @@
 //! Plain Rust beside the proved readers of texts: makes a play script of just below 16 MiB, of ordinary lines
 //! and some statements of 16,384 bytes, and reads it line by line and splits each line on spaces, without a
-//! copy of a word. `make` writes the script to standard output; `script N` and `statements N` take it from
-//! standard input and do that N times, the second for the lines of statements alone.
+//! copy of a word. `make` writes the script to standard output; `script N` and `all N` take it from standard
+//! input and do that N times: it is the yardstick of both.
 
 use std::env;
 use std::io::{self, Read, Write};
@@ -63,15 +63,6 @@ fn read(text: &str) -> usize {
     lines.len()
 }
 
-/// The words of each line of a statement, one line after another.
-fn read_statements(text: &str) -> usize {
-    text.lines()
-        .filter(|line| line.starts_with("sql "))
-        .map(|line| line.split(' ').collect::<Vec<&str>>().len())
-        .filter(|words| *words > 2)
-        .count()
-}
-
 fn main() -> io::Result<()> {
     let words: Vec<String> = env::args().skip(1).collect();
     if words[0] == "make" {
@@ -82,10 +73,7 @@ fn main() -> io::Result<()> {
     io::stdin().read_to_string(&mut text)?;
     let mut total = 0;
     for _ in 0..rounds {
-        total += match words[0].as_str() {
-            "script" => read(&text),
-            _ => read_statements(&text),
-        };
+        total += read(&text);
     }
     println!("{total}");
     Ok(())
