@@ -251,6 +251,32 @@ fn tokens_stop_where_they_end(rt: HostRuntime) -> Result<(), Fail> {
     Ok(())
 }
 
+// The text is a statement whose canonical text is read back, or it is refused at a place within it.
+fn is_read_or_refused(alloc: Global, text: &str) -> bool {
+    match printed(alloc, text) {
+        Ok(again) => is_stable(alloc, again.as_str()),
+        Err(ParseFault::BadText(at) | ParseFault::BadSyntax(at) | ParseFault::TooDeep(at)) => {
+            at as usize <= text.len()
+        }
+        Err(ParseFault::NoMemory) => false,
+    }
+}
+
+#[test]
+fn every_prefix_is_read_or_refused(rt: HostRuntime) -> Result<(), Fail> {
+    let alloc = rt.alloc();
+    for statement in STATEMENTS {
+        let mut text = String::new(alloc);
+        for letter in statement.chars() {
+            if letter != '|' {
+                text.push(letter)?;
+                assert!(rt; is_read_or_refused(alloc, text.as_str()), "{text}");
+            }
+        }
+    }
+    Ok(())
+}
+
 #[test]
 fn expressions_are_not_too_deep(rt: HostRuntime) -> Result<(), Fail> {
     let alloc = rt.alloc();
