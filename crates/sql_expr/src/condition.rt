@@ -1,0 +1,27 @@
+//! Conditions.
+ghost use Rattle.std.specs.Prelude.{◌≡◌, ◌≢◌, ◌++◌, MatchResult, IfErr, Ok, Err};
+ghost use Rattle.sql_expr.specs.declared.fault.EvalFault.TheVariants as fault;
+ghost use Rattle.sql_expr.specs.Conditions.{kept};
+
+use crate::evaluation::evaluate;
+use crate::expr::Expr;
+use crate::fault::EvalFault;
+use crate::value::Value;
+use geo_base::Cell;
+
+/// Whether the row of a left table's cells and a right one's passes every test. It is dropped at the first
+/// that isn't true, and later ones aren't evaluated. A fault of a test that is evaluated is the answer.
+/// This takes no memory.
+#[tactic(auto, using(crate::proofs::FirstFaults::other_fault))]
+pub fn keeps(tests: &[Expr], left: &[Cell], right: &[Cell]) -> Result<bool, EvalFault>
+    ensures exact { MatchResult result (λ b. kept (left.now ++ right.now) tests.now ≡ Ok b) (λ e. kept (left.now ++ right.now) tests.now ≡ Err e) }
+    ensures memory { IfErr result (λ e. e ≢ fault.NoMemory) }
+{
+    for test in tests {
+        match evaluate(test, left, right)? {
+            Value::Truth(true) => {}
+            _ => return Ok(false),
+        }
+    }
+    Ok(true)
+}
