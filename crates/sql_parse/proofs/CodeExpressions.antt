@@ -6,19 +6,19 @@ use Rattle.sql_ast.specs.declared.ast.AstOp.{AstOp}
 use Rattle.sql_lex.specs.declared.symbol.Symbol.TheVariants.{Dot}
 use Rattle.sql_parse.specs.declared.expression.reader.Mode.{Mode}
 use Rattle.sql_parse.specs.declared.expression.reader.Mode.TheVariants.{Named, Qualified, Complete}
+use Rattle.sql_parse.specs.declared.expression.reader.Move.{Move}
 use Rattle.sql_parse.specs.declared.expression.reader.Reader.{Reader}
-use Rattle.sql_parse.specs.declared.expression.reader.Step.{Step}
-use Rattle.sql_parse.specs.declared.expression.reader.Step.TheVariants.{Goes, Ends, Refuses, Deepens}
 use Rattle.sql_parse.specs.declared.stop.Stop.TheVariants.{Stuck, Deep}
-use Rattle.sql_parse.specs.Expressions.{run, step, step_in, finished, behind_step, complete_step, named_step, reader_in}
+use Rattle.sql_parse.specs.Expressions.{Goes, Ends, Refuses, Deepens, moved, run, step, step_in, finished, behind_step, complete_step, named_step, reader_in}
 use Rattle.sql_parse.specs.Grammar.{begins_integer}
 use Rattle.sql_parse.specs.Kinds.{is_symbol, operator_of}
 
--- what the next token does, where it is known what it does before what is behind it
-pub step_here : (reader : Reader) (token : TokenKind) (more : List TokenKind) (before : Bool) (done : Step) →
-    before ≡ begins_integer more → done ≡ step reader token before → step reader token (begins_integer more) ≡ done
-step_here reader token more before done integer did =
-    subst (λ (b : Bool). step reader token b ≡ done) integer (sym did)
+-- What the next token does, by what was answered beside the reader. Of what is behind it, it is known whether that begins with an integer.
+pub step_here : (reader next : Reader) (token : TokenKind) (more : List TokenKind) (before : Bool) (answer move : Move) →
+    before ≡ begins_integer more → answer ≡ move → moved answer next ≡ step reader token before →
+    step reader token (begins_integer more) ≡ moved move next
+step_here reader next token more before answer move integer is did =
+    subst (λ (b : Bool). step reader token b ≡ moved move next) integer (sym did ∙ ap (λ m. moved m next) is)
 
 pub run-goes : (reader next : Reader) (token : TokenKind) (more tokens : List TokenKind) →
     tokens ≡ token ∷ more → step reader token (begins_integer more) ≡ Goes next → run reader tokens ≡ run next (drop 1 tokens)

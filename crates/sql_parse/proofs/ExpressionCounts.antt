@@ -7,9 +7,8 @@ use Rattle.sql_parse.specs.declared.stop.Stop.{Stop}
 use Rattle.sql_parse.specs.declared.stop.Stop.TheVariants.{Deep}
 use Rattle.sql_parse.specs.declared.expression.frame.Frame.{Frame}
 use Rattle.sql_parse.specs.declared.expression.reader.Mode.{Mode}
-use Rattle.sql_parse.specs.declared.expression.reader.Step.TheVariants.{Goes, Deepens}
 use Rattle.sql_parse.specs.Trees.{Role, Operator, Opening, Inside, Outside, Mark, kinds}
-use Rattle.sql_parse.specs.Expressions.{with_operator, with_opening, by_step, run}
+use Rattle.sql_parse.specs.Expressions.{Goes, Deepens, with_operator, with_opening, by_step, run}
 use Rattle.sql_parse.proofs.ExpressionSteps.{reading}
 
 abbrev pub Answer : Type 0

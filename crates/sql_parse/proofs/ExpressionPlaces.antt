@@ -11,10 +11,8 @@ use Rattle.sql_parse.specs.declared.expression.frame.Frame.TheVariants as frame
 use Rattle.sql_parse.specs.declared.expression.reader.Mode.{Mode}
 use Rattle.sql_parse.specs.declared.expression.reader.Mode.TheVariants as mode
 use Rattle.sql_parse.specs.declared.expression.reader.Reader.{Reader}
-use Rattle.sql_parse.specs.declared.expression.reader.Step.{Step}
-use Rattle.sql_parse.specs.declared.expression.reader.Step.TheVariants.{Goes, Ends, Refuses, Deepens}
 use Rattle.sql_parse.specs.Grammar.{begins_integer, GoesOn}
-use Rattle.sql_parse.specs.Expressions.{run, step, step_in, operand_step, finished, at_end, by_step, signed}
+use Rattle.sql_parse.specs.Expressions.{Step, Goes, Ends, Refuses, Deepens, run, step, step_in, operand_step, finished, at_end, by_step, signed}
 use Rattle.sql_parse.proofs.ExpressionCounts.{Answer}
 
 -- ---- how many tokens are left

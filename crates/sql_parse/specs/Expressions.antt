@@ -16,8 +16,8 @@ use Rattle.sql_parse.specs.declared.expression.frame.Frame.TheVariants as frame
 use Rattle.sql_parse.specs.declared.expression.reader.Mode.{Mode}
 use Rattle.sql_parse.specs.declared.expression.reader.Mode.TheVariants as mode
 use Rattle.sql_parse.specs.declared.expression.reader.Reader.{Reader}
-use Rattle.sql_parse.specs.declared.expression.reader.Step.{Step}
-use Rattle.sql_parse.specs.declared.expression.reader.Step.TheVariants.{Goes, Ends, Refuses, Deepens}
+use Rattle.sql_parse.specs.declared.expression.reader.Move.{Move}
+use Rattle.sql_parse.specs.declared.expression.reader.Move.TheVariants as move
 use Rattle.sql_parse.specs.Kinds.{operator_of, integer_of, is_keyword, is_symbol}
 use Rattle.sql_parse.specs.Levels.{level_of, left_of, right_of, not_level, test_level, sum_level, sign_level, whole_level}
 use Rattle.sql_parse.specs.Grammar.{begins_integer}
@@ -74,6 +74,24 @@ reader_in mode frames reader = record reader { mode = mode; frames = frames }
 -- nothing was read
 abbrev pub start : Reader
 start = record { mode = mode.Operand; frames = []; operators = 0; openings = 0 }
+
+-- what a token does to a reader
+pub data Step : Type 0 where
+  -- it belongs to the expression, which is read up to it now
+  Goes : Reader → Step
+  -- the expression ends before it
+  Ends : Ast → Step
+  -- no expression goes on or ends with it
+  Refuses : Step
+  -- it is one operator or one opening parenthesis too many
+  Deepens : Step
+
+-- that, as it is answered beside the reader that goes on
+abbrev pub moved : Move → Reader → Step
+moved move.Goes reader = Goes reader
+moved (move.Ends value) reader = Ends value
+moved move.Refuses reader = Refuses
+moved move.Deepens reader = Deepens
 
 -- one operator more was read
 abbrev pub with_operator : Mode → List Frame → Reader → Step

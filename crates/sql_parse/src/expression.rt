@@ -1,5 +1,6 @@
 //! Expressions, read one token at a time.
 
+ghost use Rattle.sql_parse.specs.Expressions.{run};
 ghost use Rattle.sql_parse.specs.Reading as spec;
 ghost use Rattle.sql_parse.specs.Reading.{Reads};
 
@@ -13,27 +14,36 @@ mod step;
 
 use crate::cursor::Cursor;
 use crate::stop::Stop;
-use reader::{Reader, Step};
+use reader::{Move, Reader};
 use sql_ast::Ast;
 use std::alloc::Global;
 use step::{finished, step};
 
-/// Reads the longest expression, in one pass over its tokens.
-pub fn read_expression(alloc: Global, cursor: &mut Cursor<'_>) -> Result<Ast, Stop>
-    ensures { Reads (spec.expression cursor.old) result cursor.new }
+// Reads the longest expression that the tokens go on with, in one pass over them.
+fn read_on(alloc: Global, reader: &mut Reader, cursor: &mut Cursor<'_>) -> Result<Ast, Stop>
+    ensures { Reads (run reader.old cursor.old) result cursor.new }
 {
-    let mut reader = Reader::new(alloc);
     while let Some((token, before_integer)) = cursor.ahead() {
         match step(alloc, reader, token, before_integer)? {
-            Step::Goes(next) => reader = next,
-            Step::Ends(value) => return Ok(value),
-            Step::Refuses => return Err(cursor.refuse()),
-            Step::Deepens => return Err(Stop::Deep(cursor.left())),
+            Move::Goes => cursor.skip(),
+            Move::Ends(value) => return Ok(value),
+            Move::Refuses => return Err(cursor.refuse()),
+            Move::Deepens => return Err(Stop::Deep(cursor.left())),
         }
-        cursor.skip();
     }
     match finished(alloc, reader)? {
         Some(value) => Ok(value),
         None => Err(cursor.refuse()),
     }
+}
+
+/// Reads the longest expression.
+#[tactic(auto, unfolding(crate::specs::Reading::expression))]
+pub fn read_expression(alloc: Global, cursor: &mut Cursor<'_>) -> Result<Ast, Stop>
+    ensures { Reads (spec.expression cursor.old) result cursor.new }
+{
+    let mut reader = Reader::new(alloc);
+    let read = read_on(alloc, &mut reader, cursor);
+    drop(reader);
+    read
 }

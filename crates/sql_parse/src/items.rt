@@ -5,7 +5,7 @@ ghost use Rattle.sql_parse.specs.Reading.{Reads};
 
 use crate::cursor::Cursor;
 use crate::expression::read_expression;
-use crate::list::{Part, read_separated};
+use crate::list::{Part, beside, read_closed, read_separated};
 use crate::names::read_alias;
 use crate::stop::Stop;
 use sql_ast::{Ast, AstItem, AstValue, Items};
@@ -19,8 +19,7 @@ fn read_argument(alloc: Global, cursor: &mut Cursor<'_>) -> Result<Ast, Stop>
 {
     cursor.expect_symbol(Symbol::Open)?;
     let argument = read_expression(alloc, cursor)?;
-    cursor.expect_symbol(Symbol::Close)?;
-    Ok(argument)
+    read_closed(cursor, argument)
 }
 
 // What stands behind the opening parenthesis of COUNT.
@@ -32,8 +31,7 @@ fn read_counted(alloc: Global, cursor: &mut Cursor<'_>) -> Result<AstValue, Stop
         return Ok(AstValue::CountAll);
     }
     let argument = read_expression(alloc, cursor)?;
-    cursor.expect_symbol(Symbol::Close)?;
-    Ok(AstValue::Count(argument))
+    read_closed(cursor, AstValue::Count(argument))
 }
 
 // What stands behind COUNT.
@@ -73,7 +71,7 @@ fn read_item(alloc: Global, cursor: &mut Cursor<'_>) -> Result<AstItem, Stop>
     ensures { Reads (spec.item cursor.old) result cursor.new }
 {
     let value = read_item_value(alloc, cursor)?;
-    let alias = read_alias(alloc, cursor)?;
+    let (value, alias) = beside(value, read_alias(alloc, cursor))?;
     Ok(AstItem { value, alias })
 }
 

@@ -1,6 +1,6 @@
 //! Parts that may be missing, and lists.
 
-ghost use Rattle.std.specs.Prelude.{◌≡◌};
+ghost use Rattle.std.specs.Prelude.{◌≡◌, Ok, Err, MatchResult};
 ghost use Rattle.sql_parse.specs.Reading as spec;
 ghost use Rattle.sql_parse.specs.Reading.{Reads};
 
@@ -38,6 +38,21 @@ pub fn read_after<T: Part>(
         return Ok(None);
     }
     Ok(Some(T::read(alloc, cursor)?))
+}
+
+/// The value, where the parenthesis closes behind it.
+pub fn read_closed<T: Drop>(cursor: &mut Cursor<'_>, value: T) -> Result<T, Stop>
+    ensures { Reads (spec.and_then (spec.symbol Symbol.Close cursor.old) (λ _. spec.pure value)) result cursor.new }
+{
+    cursor.expect_symbol(Symbol::Close)?;
+    Ok(value)
+}
+
+/// The two, where the second was read. Where it wasn't, the first is dropped by a call, which is quick to prove.
+pub fn beside<A: Drop, B: Drop>(first: A, second: Result<B, Stop>) -> Result<(A, B), Stop>
+    ensures { MatchResult result (λ both. (both.0 ≡ first) × (second ≡ Ok both.1)) (λ stop. second ≡ Err stop) }
+{
+    Ok((first, second?))
 }
 
 /// One part or more, with commas between them.

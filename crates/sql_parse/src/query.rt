@@ -7,7 +7,7 @@ ghost use Rattle.sql_parse.specs.Reading.{Reads};
 use crate::cursor::Cursor;
 use crate::expression::read_expression;
 use crate::items::read_items;
-use crate::list::{Part, read_after, read_clause};
+use crate::list::{Part, beside, read_after, read_clause};
 use crate::names::{read_column, read_number, read_table};
 use crate::stop::Stop;
 use sql_ast::{Ast, ColRef, JoinRef, Many, OrderRef, SelectStmt};
@@ -110,10 +110,11 @@ pub fn read_select(alloc: Global, cursor: &mut Cursor<'_>) -> Result<SelectStmt,
     cursor.expect_keyword(Keyword::KFrom)?;
     let left = read_table(alloc, cursor)?;
     let right = read_join(alloc, cursor)?;
-    let filter = read_filter(alloc, cursor)?;
-    let group = read_group(alloc, cursor)?;
-    let order = read_order(alloc, cursor)?;
-    let limit = read_limit(cursor)?;
+    let (right, filter) = beside(right, read_filter(alloc, cursor))?;
+    let (tests, group) = beside((right, filter), read_group(alloc, cursor))?;
+    let (tests, order) = beside(tests, read_order(alloc, cursor))?;
+    let (tests, limit) = beside(tests, read_limit(cursor))?;
+    let (right, filter) = tests;
     Ok(SelectStmt {
         items,
         left,

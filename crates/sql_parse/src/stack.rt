@@ -1,6 +1,6 @@
 //! Stacks.
 
-ghost use Rattle.std.specs.Prelude.{◌≡◌, List, [], ◌∷◌, OnOk, MatchOption};
+ghost use Rattle.std.specs.Prelude.{◌≡◌, List, [], ◌∷◌, drop, OnOk, MatchOption};
 
 use geo_base::NoMemory;
 use std::alloc::Global;
@@ -45,6 +45,17 @@ impl<T> Stack<T> {
         ensures { MatchOption result ((self.old ≡ []) × (self.new ≡ [])) (λ top. self.old ≡ top ∷ self.new) }
     {
         self.items.pop()
+    }
+
+    /// Takes the value off the top, if there is one.
+    pub fn discard(&mut self)
+    where
+        T: Drop,
+        ensures { self.new ≡ drop 1 self.old }
+    {
+        if let Some(top) = self.pop() {
+            drop(top);
+        }
     }
 
     /// The value on top.

@@ -100,6 +100,7 @@ pub fn read_whole(alloc: Global, tokens: &[Token]) -> Result<Statement, Stop>
     let mut cursor = Cursor::new(tokens);
     let statement = read_statement(alloc, &mut cursor)?;
     if cursor.left() > 0 {
+        drop(statement);
         return Err(cursor.refuse());
     }
     Ok(statement)

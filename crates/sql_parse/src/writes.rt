@@ -5,7 +5,7 @@ ghost use Rattle.sql_parse.specs.Reading.{Reads};
 
 use crate::cursor::Cursor;
 use crate::expression::read_expression;
-use crate::list::{Part, read_separated};
+use crate::list::{Part, read_closed, read_separated};
 use crate::names::read_name;
 use crate::query::read_filter;
 use crate::stop::Stop;
@@ -20,8 +20,7 @@ fn read_row(alloc: Global, cursor: &mut Cursor<'_>) -> Result<AstRow, Stop>
 {
     cursor.expect_symbol(Symbol::Open)?;
     let values = read_separated(alloc, cursor)?;
-    cursor.expect_symbol(Symbol::Close)?;
-    Ok(AstRow { values })
+    read_closed(cursor, AstRow { values })
 }
 
 impl Part for AstRow {
@@ -41,8 +40,7 @@ fn read_columns(alloc: Global, cursor: &mut Cursor<'_>) -> Result<Many<Txt>, Sto
         return Ok(Many::new(Vec::new(alloc)));
     }
     let columns = read_separated(alloc, cursor)?;
-    cursor.expect_symbol(Symbol::Close)?;
-    Ok(columns)
+    read_closed(cursor, columns)
 }
 
 /// Reads what stands behind the word INSERT.

@@ -56,8 +56,9 @@ impl Frame {
             Frame::Minus => Ok(Ast::Neg(Boxed::new(alloc, operand)?)),
             Frame::Not => Ok(Ast::Not(Boxed::new(alloc, operand)?)),
             Frame::Left(operator, left) => {
-                let left = Boxed::new(alloc, left)?;
-                Ok(Ast::Binary(operator, left, Boxed::new(alloc, operand)?))
+                let left = Boxed::new(alloc, left);
+                let operand = Boxed::new(alloc, operand);
+                Ok(Ast::Binary(operator, left?, operand?))
             }
         }
     }

@@ -7,7 +7,7 @@ ghost use Rattle.sql_parse.specs.Kinds.{integer_of};
 
 use crate::expression::frame::Frame;
 use crate::expression::levels::NOT_LEVEL;
-use crate::expression::reader::{Mode, Reader, Step};
+use crate::expression::reader::{Mode, Move, Reader};
 use crate::expression::settle::wanted;
 use crate::kinds::integer_of;
 use geo_base::{Cell, Duplicate, NoMemory};
@@ -16,8 +16,8 @@ use sql_lex::{Keyword, Symbol, TokenKind};
 use std::alloc::Global;
 
 // A minus sign: a literal's where an integer follows, and else an operator.
-fn signed(mut reader: Reader, before_integer: bool) -> Result<Step, NoMemory>
-    ensures { IfOk result (λ step. step ≡ spec.signed reader before_integer) }
+fn signed(reader: &mut Reader, before_integer: bool) -> Result<Move, NoMemory>
+    ensures { IfOk result (λ move. spec.moved move reader.new ≡ spec.signed reader.old before_integer) }
 {
     if before_integer {
         return Ok(reader.goes(Mode::Negative));
@@ -27,67 +27,72 @@ fn signed(mut reader: Reader, before_integer: bool) -> Result<Step, NoMemory>
 }
 
 // An opening parenthesis.
-fn opened(mut reader: Reader) -> Result<Step, NoMemory>
-    ensures { IfOk result (λ step. step ≡ spec.with_opening Mode.Operand (Frame.Paren ∷ reader.frames) reader) }
+fn opened(reader: &mut Reader) -> Result<Move, NoMemory>
+    ensures { IfOk result (λ move. spec.moved move reader.new ≡
+        spec.with_opening Mode.Operand (Frame.Paren ∷ reader.old.frames) reader.old) }
 {
     reader.frames.push(Frame::Paren)?;
     Ok(reader.with_opening(Mode::Operand))
 }
 
 // NOT, which may not stand inside what is tighter.
-fn denied(mut reader: Reader) -> Result<Step, NoMemory>
-    ensures { IfOk result (λ step. step ≡ spec.denied reader) }
+fn denied(reader: &mut Reader) -> Result<Move, NoMemory>
+    ensures { IfOk result (λ move. spec.moved move reader.new ≡ spec.denied reader.old) }
 {
     if wanted(&reader.frames) > NOT_LEVEL {
-        return Ok(Step::Refuses);
+        return Ok(Move::Refuses);
     }
     reader.frames.push(Frame::Not)?;
     Ok(reader.with_operator(Mode::Operand))
 }
 
 // An integer.
-fn number(reader: Reader, token: &TokenKind) -> Step
-    ensures { result ≡ spec.number reader (integer_of token.now) }
+fn number(reader: &mut Reader, token: &TokenKind) -> Move
+    ensures { spec.moved result reader.new ≡ spec.number reader.old (integer_of token.now) }
 {
     match integer_of(token) {
         Some(number) => reader.literal(Ast::Lit(Cell::Int(number as i64))),
-        None => Step::Refuses,
+        None => Move::Refuses,
     }
 }
 
 /// An integer behind its minus sign.
-pub fn negative(reader: Reader, token: &TokenKind) -> Step
-    ensures { result ≡ spec.negative reader (integer_of token.now) }
+pub fn negative(reader: &mut Reader, token: &TokenKind) -> Move
+    ensures { spec.moved result reader.new ≡ spec.negative reader.old (integer_of token.now) }
 {
     match integer_of(token) {
         Some(number) => reader.literal(Ast::Lit(Cell::Int(-(number as i64)))),
-        None => Step::Refuses,
+        None => Move::Refuses,
     }
 }
 
 // A symbol.
 #[tactic(auto, unfolding(crate::specs::Expressions::operand_step))]
-fn symbol_step(reader: Reader, symbol: Symbol, before_integer: bool) -> Result<Step, NoMemory>
-    ensures { IfOk result (λ step. step ≡ spec.operand_step reader (TokenKind.Symbol symbol) before_integer) }
+fn symbol_step(reader: &mut Reader, symbol: Symbol, before_integer: bool) -> Result<Move, NoMemory>
+    ensures { IfOk result (λ move. spec.moved move reader.new ≡ spec.operand_step reader.old (TokenKind.Symbol symbol) before_integer) }
 {
     match symbol {
         Symbol::Minus => signed(reader, before_integer),
         Symbol::Open => opened(reader),
-        _ => Ok(Step::Refuses),
+        _ => Ok(Move::Refuses),
     }
 }
 
 // A keyword.
 #[tactic(auto, unfolding(crate::specs::Expressions::operand_step))]
-fn keyword_step(reader: Reader, keyword: Keyword, before_integer: bool) -> Result<Step, NoMemory>
-    ensures { IfOk result (λ step. step ≡ spec.operand_step reader (TokenKind.Keyword keyword) before_integer) }
+fn keyword_step(
+    reader: &mut Reader,
+    keyword: Keyword,
+    before_integer: bool,
+) -> Result<Move, NoMemory>
+    ensures { IfOk result (λ move. spec.moved move reader.new ≡ spec.operand_step reader.old (TokenKind.Keyword keyword) before_integer) }
 {
     match keyword {
         Keyword::KNot => denied(reader),
         Keyword::KNull => Ok(reader.literal(Ast::Lit(Cell::Null))),
         Keyword::KTrue => Ok(reader.literal(Ast::Lit(Cell::Truth(true)))),
         Keyword::KFalse => Ok(reader.literal(Ast::Lit(Cell::Truth(false)))),
-        _ => Ok(Step::Refuses),
+        _ => Ok(Move::Refuses),
     }
 }
 
@@ -95,11 +100,11 @@ fn keyword_step(reader: Reader, keyword: Keyword, before_integer: bool) -> Resul
 #[tactic(auto, unfolding(crate::specs::Expressions::operand_step))]
 pub fn operand_step(
     alloc: Global,
-    reader: Reader,
+    reader: &mut Reader,
     token: &TokenKind,
     before_integer: bool,
-) -> Result<Step, NoMemory>
-    ensures { IfOk result (λ step. step ≡ spec.operand_step reader token.now before_integer) }
+) -> Result<Move, NoMemory>
+    ensures { IfOk result (λ move. spec.moved move reader.new ≡ spec.operand_step reader.old token.now before_integer) }
 {
     match token {
         TokenKind::Symbol(symbol) => symbol_step(reader, *symbol, before_integer),

@@ -42,11 +42,11 @@ pub struct Reader {
     pub openings: u32,
 }
 
-/// What a token does.
+/// What a token does to the reader.
 #[derive(Drop)]
-pub enum Step {
+pub enum Move {
     /// It belongs to the expression.
-    Goes(Reader),
+    Goes,
     /// The expression ends before it.
     Ends(Ast),
     /// No expression goes on or ends with it.
@@ -68,40 +68,49 @@ impl Reader {
         }
     }
 
-    /// A token more was read that is no operator and no opening parenthesis.
-    pub fn goes(mut self, mode: Mode) -> Step
-        ensures { result ≡ Step.Goes (spec.reader_in mode self.frames self) }
+    // Something else was read last. No other function drops a mode that is followed by another.
+    fn turn(&mut self, mode: Mode)
+        ensures { self.new ≡ spec.reader_in mode self.old.frames self.old }
     {
-        self.mode = mode;
-        Step::Goes(self)
+        drop(std::mem::replace(&mut self.mode, mode));
+    }
+
+    /// A token more was read that is no operator and no opening parenthesis.
+    pub fn goes(&mut self, mode: Mode) -> Move
+        ensures { spec.moved result self.new ≡ spec.Goes (spec.reader_in mode self.old.frames self.old) }
+    {
+        self.turn(mode);
+        Move::Goes
     }
 
     /// An operand more was read, which is one token's.
-    pub fn literal(self, value: Ast) -> Step
-        ensures { result ≡ spec.literal self value }
+    pub fn literal(&mut self, value: Ast) -> Move
+        ensures { spec.moved result self.new ≡ spec.literal self.old value }
     {
         self.goes(Mode::Complete(value, WHOLE_LEVEL))
     }
 
-    /// One operator more was read.
-    pub fn with_operator(mut self, mode: Mode) -> Step
-        ensures { result ≡ spec.with_operator mode self.frames self }
+    /// One operator more was read. Where it is one too many, it doesn't matter what the reader is.
+    pub fn with_operator(&mut self, mode: Mode) -> Move
+        ensures { spec.moved result self.new ≡ spec.with_operator mode self.old.frames self.old }
     {
+        self.turn(mode);
         if self.operators >= MAX_OPERATORS {
-            return Step::Deepens;
+            return Move::Deepens;
         }
         self.operators += 1;
-        self.goes(mode)
+        Move::Goes
     }
 
-    /// One opening parenthesis more was read.
-    pub fn with_opening(mut self, mode: Mode) -> Step
-        ensures { result ≡ spec.with_opening mode self.frames self }
+    /// One opening parenthesis more was read. Where it is one too many, it doesn't matter what the reader is.
+    pub fn with_opening(&mut self, mode: Mode) -> Move
+        ensures { spec.moved result self.new ≡ spec.with_opening mode self.old.frames self.old }
     {
+        self.turn(mode);
         if self.openings >= MAX_OPENINGS {
-            return Step::Deepens;
+            return Move::Deepens;
         }
         self.openings += 1;
-        self.goes(mode)
+        Move::Goes
     }
 }

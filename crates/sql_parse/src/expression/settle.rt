@@ -50,15 +50,17 @@ pub fn whole(
     alloc: Global,
     operand: Ast,
     operand_level: u8,
-    frames: Stack<Frame>,
+    frames: &mut Stack<Frame>,
 ) -> Result<Option<Ast>, NoMemory>
-    ensures { IfOk result (λ value. value ≡ spec.whole operand operand_level frames) }
+    ensures { IfOk result (λ value. value ≡ spec.whole operand operand_level frames.old) }
 {
-    let mut frames = frames;
-    let (value, _) = settle(alloc, 0, operand, operand_level, &mut frames)?;
-    match frames.pop() {
+    let (value, _) = settle(alloc, 0, operand, operand_level, frames)?;
+    match frames.top() {
         None => Ok(Some(value)),
-        Some(_) => Ok(None),
+        Some(_) => {
+            drop(value);
+            Ok(None)
+        }
     }
 }
 

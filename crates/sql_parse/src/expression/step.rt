@@ -8,7 +8,7 @@ use crate::expression::behind::{
 };
 use crate::expression::levels::WHOLE_LEVEL;
 use crate::expression::operand::{negative, operand_step};
-use crate::expression::reader::{Mode, Reader, Step};
+use crate::expression::reader::{Mode, Move, Reader};
 use crate::expression::settle::whole;
 use geo_base::NoMemory;
 use sql_ast::Ast;
@@ -19,11 +19,11 @@ use std::alloc::Global;
 #[tactic(auto, unfolding(crate::specs::Expressions::step))]
 pub fn step(
     alloc: Global,
-    mut reader: Reader,
+    reader: &mut Reader,
     token: &TokenKind,
     before_integer: bool,
-) -> Result<Step, NoMemory>
-    ensures { IfOk result (λ step. step ≡ spec.step reader token.now before_integer) }
+) -> Result<Move, NoMemory>
+    ensures { IfOk result (λ move. spec.moved move reader.new ≡ spec.step reader.old token.now before_integer) }
 {
     match std::mem::replace(&mut reader.mode, Mode::Operand) {
         Mode::Operand => operand_step(alloc, reader, token, before_integer),
@@ -38,13 +38,15 @@ pub fn step(
 
 /// The expression that was read, where all tokens were.
 #[tactic(auto, unfolding(crate::specs::Expressions::finished))]
-pub fn finished(alloc: Global, reader: Reader) -> Result<Option<Ast>, NoMemory>
-    ensures { IfOk result (λ value. value ≡ spec.finished reader) }
+pub fn finished(alloc: Global, reader: &mut Reader) -> Result<Option<Ast>, NoMemory>
+    ensures { IfOk result (λ value. value ≡ spec.finished reader.old) }
 {
-    let Reader { mode, frames, .. } = reader;
-    match mode {
-        Mode::Complete(value, level) => whole(alloc, value, level, frames),
-        Mode::Named(name) => whole(alloc, column(None, name), WHOLE_LEVEL, frames),
-        _ => Ok(None),
+    match std::mem::replace(&mut reader.mode, Mode::Operand) {
+        Mode::Complete(value, level) => whole(alloc, value, level, &mut reader.frames),
+        Mode::Named(name) => whole(alloc, column(None, name), WHOLE_LEVEL, &mut reader.frames),
+        mode => {
+            drop(mode);
+            Ok(None)
+        }
     }
 }

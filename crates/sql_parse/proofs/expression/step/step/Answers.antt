@@ -6,14 +6,14 @@ use Rattle.sql_parse.proofs.expression.step.step.Goals as goal
 
 pub returns-in-Named : goal.returns-in-Named
 returns-in-Named c =
-    let last : c.args.reader.mode ≡ Named c.in-Named.name = cc in
+    let last : c.args.reader.now.mode ≡ Named c.in-Named.name = cc in
     IfOk-weaker c.named_step.result _ _
-    (λ step did. did ∙ step-named c.replace.new.dest c.args.reader c.in-Named.name c.args.token.now c.args.before_integer last)
+    (λ move did. did ∙ step-named c.replace.new.dest c.args.reader.now c.in-Named.name c.args.token.now c.args.before_integer last)
     c.named_step.ensures
 
 pub returns-in-Complete : goal.returns-in-Complete
 returns-in-Complete c =
-    let last : c.args.reader.mode ≡ Complete c.in-Complete.value c.in-Complete.level = cc in
+    let last : c.args.reader.now.mode ≡ Complete c.in-Complete.value c.in-Complete.level = cc in
     IfOk-weaker c.complete_step.result _ _
-    (λ step did. did ∙ step-complete c.replace.new.dest c.args.reader c.in-Complete.value c.in-Complete.level c.args.token.now c.args.before_integer last)
+    (λ move did. did ∙ step-complete c.replace.new.dest c.args.reader.now c.in-Complete.value c.in-Complete.level c.args.token.now c.args.before_integer last)
     c.complete_step.ensures
