@@ -1,4 +1,5 @@
 //! Queries.
+ghost use Rattle.std.specs.Prelude.{◌≡◌, IfOk};
 
 use crate::ast::{Ast, ColRef, copy_filter, copy_name};
 use crate::many::{AstItemList, ColRefList, OrderRefList};
@@ -80,9 +81,10 @@ impl Duplicate for AstValue {
 
 impl Duplicate for AstItem {
     fn copy(&self, alloc: Global) -> Result<AstItem, NoMemory> {
+        let alias = copy_name(alloc, &self.alias)?;
         Ok(AstItem {
             value: self.value.copy(alloc)?,
-            alias: copy_name(alloc, &self.alias)?,
+            alias,
         })
     }
 }
@@ -123,19 +125,32 @@ impl Duplicate for OrderRef {
     }
 }
 
+// A copy of what JOIN and ON say, if they stand.
+fn copy_join(alloc: Global, join: &Option<JoinRef>) -> Result<Option<JoinRef>, NoMemory>
+    ensures { IfOk result (λ c. c ≡ join.now) }
+{
+    match join {
+        None => Ok(None),
+        Some(join) => Ok(Some(join.copy(alloc)?)),
+    }
+}
+
 impl Duplicate for SelectStmt {
     fn copy(&self, alloc: Global) -> Result<SelectStmt, NoMemory> {
-        let right = match &self.right {
-            None => None,
-            Some(join) => Some(join.copy(alloc)?),
-        };
+        // The parts with the most to drop come last, so that few exits drop them.
+        let group = self.group.copy(alloc)?;
+        let order = self.order.copy(alloc)?;
+        let items = self.items.copy(alloc)?;
+        let left = self.left.copy(alloc)?;
+        let filter = copy_filter(alloc, &self.filter)?;
+        let right = copy_join(alloc, &self.right)?;
         Ok(SelectStmt {
-            items: self.items.copy(alloc)?,
-            left: self.left.copy(alloc)?,
+            items,
+            left,
             right,
-            filter: copy_filter(alloc, &self.filter)?,
-            group: self.group.copy(alloc)?,
-            order: self.order.copy(alloc)?,
+            filter,
+            group,
+            order,
             limit: self.limit,
         })
     }
