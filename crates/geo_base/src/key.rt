@@ -40,7 +40,7 @@ impl Model for Key {
 pub enum KeyFault {
     /// There is none, or more than [`MAX_KEY_CELLS`].
     WrongCount,
-    /// The first cell that is NULL stands at this place.
+    /// The first cell that is NULL stands at this place, counted from 0.
     Null(u8),
 }
 
@@ -53,6 +53,7 @@ fn first_null(cells: &[Cell]) -> Option<usize>
 }
 
 impl Key {
+    /// The key of these cells, in this order. Their count is tested first, and then they are tested for NULL.
     #[tactic(auto, unfolding(crate::specs::Cells::key_fault))]
     pub fn new(cells: Vec<Cell>) -> Result<Key, KeyFault>
         ensures { MatchResult result (λ k. (k ≡ cells.items) × (key_fault cells.items ≡ None)) (λ e. key_fault cells.items ≡ Some e) }
@@ -66,6 +67,7 @@ impl Key {
         }
     }
 
+    /// The cells, in the key's order.
     pub fn cells(&self) -> &[Cell]
         ensures value { result.now ≡ self.now }
         ensures key { IsKey self.now }

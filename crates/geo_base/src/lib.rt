@@ -18,8 +18,6 @@ mod numbers;
 mod outcome;
 mod row_id;
 mod row_image;
-#[cfg(test)]
-mod tests;
 mod txt;
 
 pub use cell::Cell;

@@ -33,6 +33,7 @@ impl Model for Line {
 }
 
 impl Line {
+    /// The line of these cells. [`WrongCount`] where there is none, or more than [`MAX_LINE_CELLS`].
     pub fn new(cells: Vec<Cell>) -> Result<Line, WrongCount>
         ensures { MatchResult result (λ line. (line ≡ cells.items) × IsLine cells.items) (λ _. ¬ (IsLine cells.items)) }
     {
@@ -42,6 +43,7 @@ impl Line {
         Ok(Line { cells })
     }
 
+    /// The cells, in the line's order.
     pub fn cells(&self) -> &[Cell]
         ensures value { result.now ≡ self.now }
         ensures count { IsLine self.now }

@@ -15,7 +15,10 @@ pub type TableNo = u8;
 /// The name of a candidate.
 #[derive(Clone, Copy, Debug, PartialEq, Eq)]
 pub struct CandId {
+    /// The epoch that it is a candidate of, from 1.
     pub epoch: Epoch,
+    /// The region that sealed it or will.
     pub region: RegionNo,
+    /// Its place in that region's batch of the epoch.
     pub csn: Csn,
 }

@@ -36,6 +36,7 @@ impl Model for RowImage {
 pub struct WrongCount;
 
 impl RowImage {
+    /// The image of these cells. [`WrongCount`] where there is none, or more than [`MAX_ROW_CELLS`].
     pub fn new(cells: Vec<Cell>) -> Result<RowImage, WrongCount>
         ensures { MatchResult result (λ row. (row ≡ cells.items) × IsRowImage cells.items) (λ _. ¬ (IsRowImage cells.items)) }
     {
@@ -45,6 +46,7 @@ impl RowImage {
         Ok(RowImage { cells })
     }
 
+    /// The cells, in the order of the columns.
     pub fn cells(&self) -> &[Cell]
         ensures value { result.now ≡ self.now }
         ensures count { IsRowImage self.now }

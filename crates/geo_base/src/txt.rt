@@ -40,6 +40,7 @@ impl Model for Txt {
 pub enum TxtFault {
     /// It has more than [`MAX_TEXT_BYTES`] bytes.
     TooLong,
+    /// There was no memory for a copy of it. It says nothing of the text but that it is short enough.
     NoMemory,
 }
 
@@ -52,6 +53,7 @@ impl From<AllocError> for TxtFault {
 }
 
 impl Txt {
+    /// A copy of the text. Takes a step for each byte, and none where there are too many.
     pub fn new(alloc: Global, text: &str) -> Result<Txt, TxtFault>
         ensures value { IfOk result (λ t. t ≡ text.now) }
         ensures too_long { IsErrOf result TxtFault.TooLong ↔ (MAX_TEXT_BYTES < length text.now) }
@@ -63,6 +65,7 @@ impl Txt {
         Ok(Txt { text })
     }
 
+    /// The text, of at most [`MAX_TEXT_BYTES`] bytes.
     pub fn text(&self) -> &str
         ensures value { result.now ≡ self.now }
         ensures text { IsText self.now }

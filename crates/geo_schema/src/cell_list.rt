@@ -19,12 +19,14 @@ impl Model for CellList {
 }
 
 impl CellList {
+    /// These cells, in this order.
     pub fn new(items: Vec<Cell>) -> CellList
         ensures { result ≡ items.items }
     {
         CellList { items }
     }
 
+    /// The cells, in their order.
     pub fn items(&self) -> &[Cell]
         ensures { result.now ≡ self.now }
     {

@@ -58,12 +58,14 @@ impl Model for ColumnList {
 }
 
 impl ColumnList {
+    /// These columns, from column 0 on. The rules of columns are tested by [`crate::Schema::new`].
     pub fn new(items: Vec<ColumnDef>) -> ColumnList
         ensures { result ≡ items.items }
     {
         ColumnList { items }
     }
 
+    /// The columns, from column 0 on.
     pub fn items(&self) -> &[ColumnDef]
         ensures { result.now ≡ self.now }
     {

@@ -21,10 +21,11 @@ pub enum CellFault {
 pub enum SchemaFault {
     /// There are more than [`geo_base::limits::MAX_TABLES`].
     TooManyTables,
-    /// The first table whose name an earlier one has, by its name.
+    /// No table breaks a rule, and this is the name of the first whose name an earlier one has.
     Twice(Txt),
-    /// The first table that breaks a rule of tables.
+    /// The first table that breaks a rule of tables, where there are not too many.
     BadTable(TableNo),
+    /// There was no memory for the name in [`SchemaFault::Twice`]. It says nothing of the tables.
     NoMemory,
 }
 

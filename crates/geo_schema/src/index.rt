@@ -47,12 +47,14 @@ impl Model for IndexList {
 }
 
 impl IndexList {
+    /// These indexes, from index 0 on. The rules of indexes are tested by [`crate::Schema::new`].
     pub fn new(items: Vec<IndexDef>) -> IndexList
         ensures { result ≡ items.items }
     {
         IndexList { items }
     }
 
+    /// The indexes, from index 0 on.
     pub fn items(&self) -> &[IndexDef]
         ensures { result.now ≡ self.now }
     {

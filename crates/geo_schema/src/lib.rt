@@ -18,8 +18,6 @@ mod row_rule;
 mod schema;
 mod table;
 mod table_rule;
-#[cfg(test)]
-mod tests;
 
 pub use cell_list::CellList;
 pub use column::{ColumnDef, ColumnList, Kind};

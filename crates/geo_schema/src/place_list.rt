@@ -19,12 +19,14 @@ impl Model for PlaceList {
 }
 
 impl PlaceList {
+    /// These places, in this order. That they are those of columns is tested by [`crate::Schema::new`].
     pub fn new(items: Vec<u8>) -> PlaceList
         ensures { result ≡ items.items }
     {
         PlaceList { items }
     }
 
+    /// The places, in their order.
     pub fn items(&self) -> &[u8]
         ensures { result.now ≡ self.now }
     {

@@ -14,6 +14,7 @@ pub enum CellReadFault {
     BadUtf8(usize),
     /// The length at this place is above that of the longest text.
     TooLong(usize),
+    /// There was no memory for what was read. It says nothing of the bytes.
     NoMemory,
 }
 

@@ -11,8 +11,6 @@ mod fault;
 mod laws;
 mod reading;
 mod tag;
-#[cfg(test)]
-mod tests;
 mod writing;
 
 pub use fault::CellReadFault;

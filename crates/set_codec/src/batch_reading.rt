@@ -202,12 +202,14 @@ fn read_sized(
     read_batch_from(alloc, schema, regions, None, bytes, 0)
 }
 
-/// The batch that the bytes spell. Takes a step for each byte, and for each cell one for each key place.
+/// The batch that the bytes spell, where `regions` is the number of regions, from 1 to 8. Takes a step for
+/// each byte, and for each cell one for each key place.
 ///
-/// Nothing is reserved for a number that the bytes announce. The batch takes at most 64 bytes of memory
-/// for each byte read, which is 256 MiB for the most bytes of a batch, and what the allocator adds. So
-/// much is taken where a change of 3 bytes puts a row of one cell: 32 bytes for the cell, 32 for its copy
-/// in the key, and 64 for the change, in a list that has up to twice the room that it needs.
+/// Nothing is reserved for a number that the bytes announce. By the sizes of the types, which nothing proves,
+/// the batch takes at most 64 bytes of memory for each byte read, which is 256 MiB for the most bytes of a
+/// batch; not counted is a list's old room while it grows, nor what the allocator adds. So much is taken where
+/// a change of 3 bytes puts a row of one cell: 32 bytes for the cell, 32 for its copy in the key, and 64 for
+/// the change, in a list that has up to twice the room that it needs.
 pub fn read_batch(
     alloc: Global,
     schema: &Schema,

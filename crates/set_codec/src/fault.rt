@@ -36,10 +36,12 @@ pub enum CodecFault {
     BadRow(usize),
     /// The start at this place isn't before the epoch, or too long before it.
     BadStart(usize),
-    /// There is too much of something.
+    /// There is more than the limit allows, or no row: at the number, at the candidate for
+    /// [`Limit::SetBytes`], at the first byte too many for [`Limit::BatchBytes`].
     OverLimit(usize, Limit),
     /// The first byte behind the end stands at this place.
     Trailing(usize),
+    /// There was no memory for what was read. It says nothing of the bytes.
     NoMemory,
 }
 

@@ -16,8 +16,6 @@ mod laws;
 mod packet;
 mod row_reading;
 mod size;
-#[cfg(test)]
-mod tests;
 mod writing;
 
 pub use batch_reading::read_batch;

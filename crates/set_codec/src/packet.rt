@@ -30,12 +30,14 @@ impl Model for ByteList {
 }
 
 impl ByteList {
+    /// These bytes. Whether they spell a batch isn't tested.
     pub fn new(items: Vec<u8>) -> ByteList
         ensures { result ≡ items.items }
     {
         ByteList { items }
     }
 
+    /// The bytes, from the first on.
     pub fn items(&self) -> &[u8]
         ensures { result.now ≡ self.now }
     {
@@ -46,12 +48,12 @@ impl ByteList {
 /// What one region sends to another.
 #[derive(Debug, Drop)]
 pub enum Packet {
-    /// The spelling of a batch.
+    /// The spelling of a batch, on its way to the region `to`.
     Batch {
         to: RegionNo,
         bytes: ByteList,
     },
-    /// The question for the batch of an epoch.
+    /// The region `from` asks the region `to`, another one, for its batch of an epoch from 1 to 4,294,967,293.
     Fetch {
         from: RegionNo,
         to: RegionNo,
@@ -132,7 +134,9 @@ fn read_of_kind(
     }
 }
 
-/// The packet that the bytes spell. Takes a step for each byte, and for each cell one for each key place.
+/// The packet that the bytes spell, where `regions` is the number of regions, from 1 to 8. Takes a step for
+/// each byte, and for each cell one for each key place.
+///
 /// A packet's batch is read and let go, with the memory of [`crate::read_batch`]; its bytes are kept.
 pub fn read_packet(
     alloc: Global,

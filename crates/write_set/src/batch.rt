@@ -5,8 +5,11 @@ use std::alloc::Global;
 /// What one region seals for one epoch: its sessions' candidates, or none.
 #[derive(Debug, Drop)]
 pub struct Batch {
+    /// The region that sealed it.
     pub region: RegionNo,
+    /// The epoch that it is for, from 1.
     pub epoch: Epoch,
+    /// The candidates, at most 4,096 in a lawful batch.
     pub items: CandidateList,
 }
 

@@ -8,7 +8,9 @@ use std::marker::Model;
 /// A transaction that asks to commit: the epoch on whose snapshot it ran, and what it changes.
 #[derive(Debug, Drop)]
 pub struct Candidate {
+    /// The epoch on whose snapshot it ran: in a lawful batch, 1 to 64 epochs before the batch's.
     pub start: Epoch,
+    /// What it changes: in a lawful batch, at least one row.
     pub set: WriteSet,
 }
 
@@ -37,12 +39,14 @@ impl Model for CandidateList {
 }
 
 impl CandidateList {
+    /// These candidates, of which the first has the commit number 0. How many there are isn't tested.
     pub fn new(items: Vec<Candidate>) -> CandidateList
         ensures { result ≡ items.items }
     {
         CandidateList { items }
     }
 
+    /// The candidates, from commit number 0 on.
     pub fn items(&self) -> &[Candidate]
         ensures { result.now ≡ self.now }
     {

@@ -21,8 +21,6 @@ mod set;
 mod set_fault;
 mod size;
 mod table;
-#[cfg(test)]
-mod tests;
 mod verdicts;
 mod writes;
 

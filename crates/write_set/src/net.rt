@@ -12,9 +12,6 @@ use geo_base::{Duplicate, NoMemory, RowId};
 use std::alloc::Global;
 use std::collections::BTreeMap;
 
-#[cfg(test)]
-mod tests;
-
 /// Changes by their rows.
 type ChangesByRow = BTreeMap<RowId, Change>;
 

@@ -6,11 +6,13 @@ use std::alloc::Global;
 /// what it changes.
 #[derive(Debug, Drop)]
 pub struct Record {
+    /// The number of the session in its region, from 0 to 63.
     pub session: u8,
     /// The number of the transaction's first line in the script.
     pub first: u32,
     /// The number of its last line.
     pub last: u32,
+    /// The epoch on whose snapshot it ran, from 0.
     pub start: Epoch,
     pub set: WriteSet,
 }

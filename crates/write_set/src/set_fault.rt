@@ -12,6 +12,7 @@ pub enum SetFault {
     /// They leave no more rows than that, but their spellings have more than
     /// [`geo_base::limits::MAX_SET_BYTES`] bytes.
     TooLarge,
+    /// There was no memory for what they leave. It says nothing of the changes.
     NoMemory,
 }
 

@@ -1,0 +1,134 @@
+//! Rows of tables: their faults, their keys, and the ranges that these lie in.
+use crate::tables::schema_of;
+use crate::words::cells_of;
+use geo_base::{Duplicate, RowImage, TableNo, Txt};
+use geo_schema::{CellFault, CellList, Edge, KeyRange, Schema};
+use std::alloc::Global;
+use std::test::Fail;
+
+/// Numbers by numbers; and people by whether they are here and by their number.
+const TABLES: &str = "kv|k,v|0|/people|id,name:3!,note:1024,here:truth|30|";
+
+/// A copy of the schema of these tables.
+fn schema(alloc: Global) -> Result<Schema, Fail> {
+    let schema = schema_of(alloc, TABLES)?;
+    Ok(schema.copy(alloc)?)
+}
+
+/// What the cells are told, where the schema has the table.
+fn told(
+    alloc: Global,
+    schema: &Schema,
+    no: TableNo,
+    words: &str,
+) -> Result<Option<CellFault>, Fail> {
+    let cells = cells_of(alloc, words)?;
+    if no >= schema.count() {
+        return Err("no table".into());
+    }
+    Ok(schema.check_row(no, &cells).err())
+}
+
+#[test]
+fn each_fault_of_rows(rt: HostRuntime) -> Result<(), Fail> {
+    let schema = schema(rt.alloc())?;
+    for (no, words, fault) in [
+        (0, "7 'x", Some(CellFault::TypeClash(1))),
+        (0, "7 -", None),
+        (1, "7 'ann - yes", None),
+        (1, "7 'ann -", Some(CellFault::WrongCount)),
+        (1, "7 'ann - yes -", Some(CellFault::WrongCount)),
+        (1, "'x - - -", Some(CellFault::TypeClash(0))),
+        (1, "7 yes 7 -", Some(CellFault::TypeClash(1))),
+        (1, "7 'ann 7 -", Some(CellFault::TypeClash(2))),
+        (1, "- - 7 -", Some(CellFault::NullNotAllowed(0))),
+        (1, "7 - 7 -", Some(CellFault::NullNotAllowed(1))),
+        (1, "7 'ann - -", Some(CellFault::NullNotAllowed(3))),
+        (1, "7 'éé - -", Some(CellFault::TextTooLong(1))),
+        (1, "7 'anna - -", Some(CellFault::TextTooLong(1))),
+    ] {
+        let told = told(rt.alloc(), &schema, no, words)?;
+        assert_eq!(rt; told, fault, "{words}");
+    }
+    Ok(())
+}
+
+fn is_named(schema: &Schema, no: TableNo, name: &str) -> bool {
+    match schema.table(no) {
+        Some(table) => table.name.text() == name,
+        None => false,
+    }
+}
+
+/// Whether the table of the name, if there is to be one, is found and has the number.
+fn is_found(alloc: Global, schema: &Schema, name: &str, no: Option<TableNo>) -> Result<bool, Fail> {
+    let found = schema.find(&Txt::new(alloc, name)?);
+    let named = match no {
+        Some(no) => is_named(schema, no, name),
+        None => schema.table(schema.count()).is_none(),
+    };
+    Ok(found == no && named)
+}
+
+#[test]
+fn tables_are_found_by_names_and_numbers(rt: HostRuntime) -> Result<(), Fail> {
+    let schema = schema(rt.alloc())?;
+    for (name, no) in [("kv", Some(0)), ("people", Some(1)), ("b", None)] {
+        assert!(rt; is_found(rt.alloc(), &schema, name, no)?, "{name}");
+    }
+    Ok(())
+}
+
+/// Whether the cells are a row of people with this key.
+fn has_key(alloc: Global, schema: &Schema, words: &str, key: &str) -> Result<bool, Fail> {
+    let row = RowImage::new(cells_of(alloc, words)?)?;
+    if schema.count() < 2 || schema.check_row(1, row.cells()).is_err() {
+        return Ok(false);
+    }
+    let wanted = cells_of(alloc, key)?;
+    Ok(schema.key_of(alloc, 1, &row)?.cells() == wanted.as_slice())
+}
+
+#[test]
+fn keys_are_in_the_keys_order(rt: HostRuntime) -> Result<(), Fail> {
+    let schema = schema(rt.alloc())?;
+    assert!(rt; has_key(rt.alloc(), &schema, "7 'ann - yes", "yes 7")?);
+    Ok(())
+}
+
+/// The edge of a text: `[` before cells that are within, `(` before cells that are outside, or nothing.
+fn edge_of(alloc: Global, text: &str) -> Result<Edge, Fail> {
+    if let Some(words) = text.strip_prefix('[') {
+        return Ok(Edge::Incl(CellList::new(cells_of(alloc, words)?)));
+    }
+    match text.strip_prefix('(') {
+        Some(words) => Ok(Edge::Excl(CellList::new(cells_of(alloc, words)?))),
+        None => Ok(Edge::Open),
+    }
+}
+
+/// Whether the key of 4 and 9 lies between the edges.
+fn is_between(alloc: Global, low: &str, high: &str) -> Result<bool, Fail> {
+    let range = KeyRange {
+        low: edge_of(alloc, low)?,
+        high: edge_of(alloc, high)?,
+    };
+    let key = cells_of(alloc, "4 9")?;
+    Ok(range.holds(&key))
+}
+
+#[test]
+fn keys_between_edges(rt: HostRuntime) -> Result<(), Fail> {
+    for (low, high, holds) in [
+        ("", "", true),
+        ("[4", "[4 9", true),
+        ("(4", "", false),
+        ("", "(4", false),
+        ("(3", "(5", true),
+        ("[4 10", "", false),
+    ] {
+        let between = is_between(rt.alloc(), low, high)?;
+        assert_eq!(rt; between, holds, "{low} {high}");
+    }
+    Ok(())
+}
