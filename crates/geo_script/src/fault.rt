@@ -14,14 +14,16 @@ pub enum ScriptKind {
     /// Line 1 doesn't name the form that is wanted, line 2 isn't `regions` and one more word, or one of the
     /// two is missing.
     BadHeader,
-    /// A `table` line that spells no table, or one that can't stand beside the tables above it.
+    /// Above the line `begin`, a `table` line that spells no table, or one that can't stand beside the tables
+    /// above it.
     BadTable,
-    /// An `index` line that spells no index, or none that a table above it can have.
+    /// Above the line `begin`, an `index` line that spells no index, or none that a table above it can have.
     BadIndex,
     /// There is no line `begin`; the line is the one after the last.
     MissingBegin,
-    /// There is no such line at this place: another first word, a wrong number of words, or a second crash of
-    /// a region in a run.
+    /// There is no such line at this place: words that no line has there (another first word, another word
+    /// where `sealing`, `kept`, `lost` or `after` stands, a wrong number of words), an empty word, an event
+    /// above the line `begin`, a declaration below it, or a second crash of a region in a run.
     BadLine,
     /// A number is misspelt or out of its range.
     BadNumber,

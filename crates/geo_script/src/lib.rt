@@ -14,8 +14,6 @@ mod mark;
 mod past;
 mod reading;
 mod script;
-#[cfg(test)]
-mod tests;
 mod verb;
 mod word;
 

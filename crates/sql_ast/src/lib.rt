@@ -13,8 +13,6 @@ mod many;
 mod printing;
 mod select;
 mod statement;
-#[cfg(test)]
-mod tests;
 mod update;
 
 pub use ast::{Ast, AstOp, ColRef};

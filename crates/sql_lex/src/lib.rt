@@ -13,8 +13,6 @@ mod keyword;
 mod laws;
 mod quoted;
 mod symbol;
-#[cfg(test)]
-mod tests;
 mod token;
 mod tokens;
 mod word;

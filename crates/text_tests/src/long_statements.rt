@@ -1,0 +1,142 @@
+//! Statements of 16,384 bytes, the most that a line of a script holds.
+use crate::parsed::{fault_of, has_canonical_text};
+use crate::pieces::{padded, text_of};
+use sql_parse::ParseFault;
+use std::alloc::{AllocError, Global};
+use std::test::Fail;
+
+const BYTES: usize = 16_384;
+
+// What is long, the pieces of a text before its blanks, and those of its canonical text.
+const READ: [(&str, &[(&str, usize)], &[(&str, usize)]); 6] = [
+    (
+        "a chain",
+        &[
+            ("SELECT 1", 1),
+            ("+0000000000000000000000000000000000001", 400),
+            (" FROM t", 1),
+        ],
+        &[
+            ("SELECT ", 1),
+            ("(", 400),
+            ("1", 1),
+            (" + 1)", 400),
+            (" FROM t", 1),
+        ],
+    ),
+    (
+        "a list of rows",
+        &[("INSERT INTO t VALUES (1)", 1), (",(1)", 4_090)],
+        &[("INSERT INTO t VALUES (1)", 1), (", (1)", 4_090)],
+    ),
+    (
+        "a list of values",
+        &[("INSERT INTO t VALUES (1", 1), (",1", 8_180), (")", 1)],
+        &[("INSERT INTO t VALUES (1", 1), (", 1", 8_180), (")", 1)],
+    ),
+    (
+        "parentheses",
+        &[
+            ("SELECT ", 1),
+            ("(", 400),
+            ("a", 1),
+            (")", 400),
+            (" FROM t", 1),
+        ],
+        &[("SELECT a FROM t", 1)],
+    ),
+    (
+        "minus signs",
+        &[("SELECT ", 1), ("-", 400), ("a FROM t", 1)],
+        &[
+            ("SELECT ", 1),
+            ("-(", 400),
+            ("a", 1),
+            (")", 400),
+            (" FROM t", 1),
+        ],
+    ),
+    (
+        "blanks between minus signs",
+        &[
+            ("SELECT ", 1),
+            ("-                                       ", 400),
+            ("a FROM t", 1),
+        ],
+        &[
+            ("SELECT ", 1),
+            ("-(", 400),
+            ("a", 1),
+            (")", 400),
+            (" FROM t", 1),
+        ],
+    ),
+];
+
+fn is_read_as(
+    alloc: Global,
+    pieces: &[(&str, usize)],
+    wanted: &[(&str, usize)],
+) -> Result<bool, AllocError> {
+    let text = padded(alloc, pieces, BYTES)?;
+    let wanted = text_of(alloc, wanted)?;
+    Ok(text.len() == BYTES && has_canonical_text(alloc, text.as_str(), wanted.as_str()))
+}
+
+#[test]
+fn long_statements_are_read(rt: HostRuntime) -> Result<(), Fail> {
+    for (what, pieces, wanted) in READ {
+        assert!(rt;
+            is_read_as(rt.alloc(), pieces, wanted) == Ok(true),
+            "{what}"
+        );
+    }
+    Ok(())
+}
+
+// What is wrong, the pieces of a text before its blanks, and its fault.
+const REFUSED: [(&str, &[(&str, usize)], ParseFault); 4] = [
+    (
+        "parentheses",
+        &[
+            ("SELECT ", 1),
+            ("(", 401),
+            ("a", 1),
+            (")", 401),
+            (" FROM t", 1),
+        ],
+        ParseFault::TooDeep(407),
+    ),
+    (
+        "minus signs",
+        &[("SELECT ", 1), ("-", 401), ("a FROM t", 1)],
+        ParseFault::TooDeep(407),
+    ),
+    (
+        "a list that isn't closed",
+        &[("INSERT INTO t VALUES (1", 1), (",1", 8_180)],
+        ParseFault::BadSyntax(16_384),
+    ),
+    (
+        "a list with a bad last character",
+        &[("INSERT INTO t VALUES (1", 1), (",1", 8_180), (";", 1)],
+        ParseFault::BadText(16_383),
+    ),
+];
+
+fn fault_of_pieces(
+    alloc: Global,
+    pieces: &[(&str, usize)],
+) -> Result<(usize, Option<ParseFault>), AllocError> {
+    let text = padded(alloc, pieces, BYTES)?;
+    Ok((text.len(), fault_of(alloc, text.as_str())))
+}
+
+#[test]
+fn long_statements_are_refused(rt: HostRuntime) -> Result<(), Fail> {
+    for (what, pieces, wanted) in REFUSED {
+        let found = fault_of_pieces(rt.alloc(), pieces);
+        assert!(rt; found == Ok((BYTES, Some(wanted))), "{what}");
+    }
+    Ok(())
+}
