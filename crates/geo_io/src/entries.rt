@@ -19,12 +19,14 @@ impl Model for ByteList {
 }
 
 impl ByteList {
+    /// The entry of these bytes.
     pub fn new(items: Vec<u8>) -> Self
         ensures { result ≡ items.items }
     {
         ByteList { items }
     }
 
+    /// The bytes, from the first on.
     pub fn items(&self) -> &[u8]
         ensures { result.now ≡ self.now }
     {
@@ -47,12 +49,14 @@ impl Model for Entries {
 }
 
 impl Entries {
+    /// These entries, oldest first.
     pub fn new(items: Vec<ByteList>) -> Self
         ensures { result ≡ items.items }
     {
         Entries { items }
     }
 
+    /// The entries, oldest first.
     pub fn items(&self) -> &[ByteList]
         ensures { result.now ≡ self.now }
     {

@@ -13,6 +13,7 @@ pub struct StdSource<R> {
 }
 
 impl<R: Read> StdSource<R> {
+    /// Gives what this reader gives, and has not failed yet.
     pub fn new(reader: R) -> Self
         ensures { ⟦<StdSource<R> as Source>⟧.faults result ≡ 0 }
     {
@@ -47,6 +48,7 @@ pub struct StdSink<W> {
 }
 
 impl<W: Write> StdSink<W> {
+    /// Hands to this writer what it is given, and has not failed yet.
     pub fn new(writer: W) -> Self
         ensures { ⟦<StdSink<W> as Sink>⟧.faults result ≡ 0 }
     {

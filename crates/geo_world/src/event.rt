@@ -56,12 +56,14 @@ impl Model for EventList {
 }
 
 impl EventList {
+    /// These events, in the order of their lines.
     pub fn new(items: Vec<Event>) -> EventList
         ensures { result ≡ items.items }
     {
         EventList { items }
     }
 
+    /// The events, in the order of their lines.
     pub fn items(&self) -> &[Event]
         ensures { result.now ≡ self.now }
     {

@@ -1,7 +1,7 @@
 //! The world of a play: regions, sessions and packets, moved by the events of a script.
 //!
 //! `specs/` says what a script is, what the world is, and what each event prints and changes; the
-//! definitions of what a play prints speak of no map, table or inbox. [`read_script`] gives the script
+//! definitions of what a play prints speak of no map or inbox. [`read_script`] gives the script
 //! that bytes spell or their first bad line, and [`World::step`] prints the lines of the world's step and
 //! makes it.
 //!

@@ -23,7 +23,9 @@ pub enum ScriptKind {
 /// The first bad line of a script, counted from 1, and what is wrong with it.
 #[derive(Clone, Copy, Debug, PartialEq, Eq)]
 pub struct ScriptFault {
+    /// Counted from 1; 0 where the whole text is too long. A line that is missing is the one after the last.
     pub line: u32,
+    /// What is wrong with the line, or with the whole text.
     pub kind: ScriptKind,
 }
 
@@ -32,6 +34,7 @@ pub struct ScriptFault {
 pub enum ReadFault {
     /// The bytes are no script.
     Script(ScriptFault),
+    /// There was no memory for the events. It says nothing of the bytes.
     NoMemory,
 }
 

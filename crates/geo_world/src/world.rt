@@ -52,9 +52,10 @@ impl World {
         })
     }
 
-    /// Makes the step of an event and gives the lines that it prints. An event costs its own work: that of
-    /// the candidates, rows and packets that it names or prints, times a logarithm of what the region
-    /// keeps. After an error the world is in no stated state.
+    /// Makes the step of an event and gives the lines that it prints. A publication costs what
+    /// [`write_set::Plain::step`] says; any other event costs the rows and packets that it names or prints,
+    /// each packet with its candidates, times a logarithm of what the region keeps. After an error the world
+    /// is in no stated state.
     pub fn step(&mut self, event: &Event) -> Result<Vec<u8>, NoMemory>
         requires within { IsWithin (region_count self.old) event.now }
         requires stands { IsSomeWorld self.old }

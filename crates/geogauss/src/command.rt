@@ -23,12 +23,14 @@ impl Model for Word {
 }
 
 impl Word {
+    /// The word of this text.
     pub fn new(text: String) -> Word
         ensures { result ≡ string_bytes text }
     {
         Word { text }
     }
 
+    /// The text of the word.
     pub fn text(&self) -> &str
         ensures { result.now ≡ self.now }
     {
@@ -51,6 +53,7 @@ impl Model for Words {
 }
 
 impl Words {
+    /// These words, in their order.
     pub fn new(words: Vec<String>) -> Words
         ensures { result ≡ map string_bytes words.items }
     {
@@ -61,9 +64,9 @@ impl Words {
 /// How a script is played.
 #[derive(Debug, Drop)]
 pub struct PlayOpts {
-    /// The folder that keeps the logs, if they are to outlive the play.
+    /// The folder that keeps the logs, if they are to outlive the play. Not built yet: it is read nowhere.
     pub logs: Option<Word>,
-    /// Print what the play came to, and not each event's lines.
+    /// Print what the play came to, and not each event's lines. Not built yet: a play wants it false.
     pub summary: bool,
     /// No region opens an epoch past this one.
     pub last_epoch: u32,
@@ -81,6 +84,7 @@ pub enum Command {
 pub enum WordFault {
     /// The words name no command.
     Usage,
+    /// There was no memory for what the words say. It says nothing of the words, and is never answered yet.
     NoMemory,
 }
 
