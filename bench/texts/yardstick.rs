@@ -1,7 +1,7 @@
 //! Plain Rust beside the proved readers of texts: makes a play script of just below 16 MiB, of ordinary lines
-//! and some statements of 16,384 bytes, and reads it line by line and splits each line on spaces, without a
-//! copy of a word. `make` writes the script to standard output; `script N` and `all N` take it from standard
-//! input and do that N times: it is the yardstick of both.
+//! and some statements of 16,380 to 16,384 bytes, and reads it line by line and splits each line on spaces,
+//! without a copy of a word. `make` writes the script to standard output; `script N` and `all N` take it from
+//! standard input and do that N times: it is the yardstick of both.
 
 use std::env;
 use std::io::{self, Read, Write};
