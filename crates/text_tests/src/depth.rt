@@ -219,7 +219,7 @@ fn four_hundred_are_read(rt: HostRuntime) -> Result<(), Fail> {
 }
 
 // What is too deep, the pieces of a text, and its fault.
-const REFUSED: [(&str, &[(&str, usize)], ParseFault); 25] = [
+const REFUSED: [(&str, &[(&str, usize)], ParseFault); 29] = [
     (
         "parentheses",
         &[
@@ -333,6 +333,26 @@ const REFUSED: [(&str, &[(&str, usize)], ParseFault); 25] = [
         "times and divided by",
         &[("DELETE FROM t WHERE a", 1), ("*b/c", 201)],
         ParseFault::TooDeep(821),
+    ),
+    (
+        "the condition of a join",
+        &[("SELECT * FROM t JOIN u ON ", 1), ("-", 401), ("a", 1)],
+        ParseFault::TooDeep(426),
+    ),
+    (
+        "the condition of a query",
+        &[("SELECT * FROM t WHERE ", 1), ("NOT ", 401), ("a", 1)],
+        ParseFault::TooDeep(1_622),
+    ),
+    (
+        "the condition of an update",
+        &[("UPDATE t SET a = 1 WHERE ", 1), ("(", 401), ("a", 1)],
+        ParseFault::TooDeep(425),
+    ),
+    (
+        "no token behind the 401st parenthesis",
+        &[("SELECT ", 1), ("(", 401)],
+        ParseFault::TooDeep(407),
     ),
     (
         "no token behind the 401st",

@@ -52,7 +52,8 @@ fn numbers_are_exact_or_at_fault(rt: HostRuntime) -> Result<(), Fail> {
     Ok(())
 }
 
-/// Operands over the cells 7, NULL of a left table and 'b', TRUE of a right one.
+/// Operands over the cells 7, NULL of a left table and 'b', TRUE of a right one; where no text is asked for, NULL stands
+/// for 'b'.
 #[derive(Clone, Copy, Debug)]
 enum Side {
     Seven,

@@ -50,9 +50,12 @@ const WORDS: [(&str, &str, Keyword); 41] = [
     ("UNIQUE", "unique", Keyword::KUnique),
 ];
 
+// The words of these tests have fewer bytes.
+const MOST_BYTES: usize = 100;
+
 // The keyword that the word is, if it is one token.
 fn only_keyword(alloc: Global, word: &str) -> Result<Option<Keyword>, LexFault> {
-    if word.len() > 100 {
+    if word.len() > MOST_BYTES {
         return Err(LexFault::NoMemory);
     }
     let tokens = lex(alloc, word)?;
@@ -67,17 +70,33 @@ fn only_keyword(alloc: Global, word: &str) -> Result<Option<Keyword>, LexFault> 
     }
 }
 
-// Why the word is the name of no table.
-fn fault_as_name(alloc: Global, word: &str) -> Result<Option<ParseFault>, AllocError> {
-    let mut text = String::from_str(alloc, "DELETE FROM ")?;
+// Where a name has to stand: of a table, of an item, of a column that is set, and behind a table's name.
+const FRONTS: [(&str, u32); 4] = [
+    ("DELETE FROM ", 12),
+    ("SELECT a AS ", 12),
+    ("UPDATE t SET ", 13),
+    ("SELECT a.", 9),
+];
+
+// Why the word is no name behind the front.
+fn fault_behind(alloc: Global, front: &str, word: &str) -> Result<Option<ParseFault>, AllocError> {
+    let mut text = String::from_str(alloc, front)?;
     text.push_str(word)?;
     Ok(fault_of(alloc, text.as_str()))
 }
 
+fn is_no_name(alloc: Global, word: &str) -> bool {
+    for (front, at) in FRONTS {
+        if fault_behind(alloc, front, word) != Ok(Some(ParseFault::BadSyntax(at))) {
+            return false;
+        }
+    }
+    true
+}
+
 // The word is the keyword, and no name.
 fn is_keyword_alone(alloc: Global, word: &str, keyword: Keyword) -> bool {
-    only_keyword(alloc, word) == Ok(Some(keyword))
-        && fault_as_name(alloc, word) == Ok(Some(ParseFault::BadSyntax(12)))
+    only_keyword(alloc, word) == Ok(Some(keyword)) && is_no_name(alloc, word)
 }
 
 #[test]

@@ -27,3 +27,5 @@ mod scripts;
 mod statements;
 #[cfg(test)]
 mod tokens;
+#[cfg(test)]
+mod trees;

@@ -1,4 +1,4 @@
-//! Statements of 16,384 bytes, the most that a line of a script holds.
+//! Statements of 16,384 bytes, the most that a statement of a script has.
 use crate::parsed::{fault_of, has_canonical_text};
 use crate::pieces::{padded, text_of};
 use sql_parse::ParseFault;
@@ -8,7 +8,7 @@ use std::test::Fail;
 const BYTES: usize = 16_384;
 
 // What is long, the pieces of a text before its blanks, and those of its canonical text.
-const READ: [(&str, &[(&str, usize)], &[(&str, usize)]); 6] = [
+const READ: [(&str, &[(&str, usize)], &[(&str, usize)]); 9] = [
     (
         "a chain",
         &[
@@ -33,6 +33,21 @@ const READ: [(&str, &[(&str, usize)], &[(&str, usize)]); 6] = [
         "a list of values",
         &[("INSERT INTO t VALUES (1", 1), (",1", 8_180), (")", 1)],
         &[("INSERT INTO t VALUES (1", 1), (", 1", 8_180), (")", 1)],
+    ),
+    (
+        "a list of items",
+        &[("SELECT a", 1), (",a", 8_184), (" FROM t", 1)],
+        &[("SELECT a", 1), (", a", 8_184), (" FROM t", 1)],
+    ),
+    (
+        "a list of columns that sort",
+        &[("SELECT * FROM t ORDER BY a", 1), (",a", 8_179)],
+        &[("SELECT * FROM t ORDER BY a", 1), (", a", 8_179)],
+    ),
+    (
+        "a list of columns that are set",
+        &[("UPDATE t SET a=1", 1), (",a=1", 4_092)],
+        &[("UPDATE t SET a = 1", 1), (", a = 1", 4_092)],
     ),
     (
         "parentheses",
@@ -95,7 +110,22 @@ fn long_statements_are_read(rt: HostRuntime) -> Result<(), Fail> {
 }
 
 // What is wrong, the pieces of a text before its blanks, and its fault.
-const REFUSED: [(&str, &[(&str, usize)], ParseFault); 4] = [
+const REFUSED: [(&str, &[(&str, usize)], ParseFault); 7] = [
+    (
+        "a chain to the end",
+        &[("SELECT a", 1), ("+a", 8_184)],
+        ParseFault::TooDeep(808),
+    ),
+    (
+        "parentheses to the end",
+        &[("SELECT ", 1), ("(", 16_377)],
+        ParseFault::TooDeep(407),
+    ),
+    (
+        "minus signs to the end",
+        &[("SELECT ", 1), ("-", 16_377)],
+        ParseFault::TooDeep(407),
+    ),
     (
         "parentheses",
         &[

@@ -34,8 +34,11 @@ fn are_tokens(found: &[Token], wanted: &[(Kind<'_>, u32, u32)]) -> bool {
     found.len() == wanted.len()
 }
 
+// The texts of these tests have fewer bytes.
+const MOST_BYTES: usize = 10_000;
+
 fn cut(alloc: Global, text: &str) -> Result<Vec<Token>, LexFault> {
-    if text.len() > 10_000 {
+    if text.len() > MOST_BYTES {
         return Err(LexFault::NoMemory);
     }
     lex(alloc, text)
@@ -48,8 +51,12 @@ fn is_cut_into(alloc: Global, text: &str, wanted: &[(Kind<'_>, u32, u32)]) -> bo
     }
 }
 
-const TEXTS: [(&str, &[(Kind<'_>, u32, u32)]); 6] = [
+const TEXTS: [(&str, &[(Kind<'_>, u32, u32)]); 7] = [
     ("", &[]),
+    (
+        "_a1 _",
+        &[(Kind::Name("_a1"), 0, 3), (Kind::Name("_"), 4, 5)],
+    ),
     (" \t ", &[]),
     (
         "sElEcT\tit_1 <= 'o''né', 007<>9223372036854775807 ",

@@ -6,7 +6,11 @@ use std::alloc::Global;
 use std::test::Fail;
 
 // Lines behind a head of four, and the event of the first one.
-const PLAYED: [(&[u8], Seen<'static>); 24] = [
+const PLAYED: [(&[u8], Seen<'static>); 28] = [
+    (b"publish 0", ("publish", 0, 0, 0, "")),
+    (b"show 0", ("show", 0, 0, 0, "")),
+    (b"crash 0", ("crash", 0, 0, 0, "")),
+    (b"restart 0", ("restart", 0, 0, 0, "")),
     (b"sql 0.0 x", ("sql", 0, 0, 0, "x")),
     (b"sql 2.63  X \r\n", ("sql", 2, 63, 0, " X ")),
     (b"sql 1.10 \xc3\xa9\n", ("sql", 1, 10, 0, "\u{e9}")),
@@ -192,7 +196,13 @@ fn lines_of_plays_that_are_bad(rt: HostRuntime) -> Result<(), Fail> {
 }
 
 // Lines of runs, the number of the first bad one, and what is wrong with it.
-const BAD_RUNS: [(&[u8], u32, ScriptKind); 21] = [
+const BAD_RUNS: [(&[u8], u32, ScriptKind); 23] = [
+    (b"vacuum\nsql 0.0 \xff", 5, ScriptKind::BadLine),
+    (
+        b"sql 0.0 x\nsql 3.0 x\nvacuum\nsql 0.0 x",
+        6,
+        ScriptKind::BadNumber,
+    ),
     (b"seal 0", 5, ScriptKind::BadLine),
     (b"outcome 0.0", 5, ScriptKind::BadLine),
     (b"deliver 0", 5, ScriptKind::BadLine),

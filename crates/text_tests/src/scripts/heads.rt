@@ -5,7 +5,12 @@ use std::alloc::Global;
 use std::test::Fail;
 
 // Texts, the number of the first bad line, and what is wrong with it.
-const BAD: [(&[u8], u32, ScriptKind); 29] = [
+const BAD: [(&[u8], u32, ScriptKind); 30] = [
+    (
+        b"geogauss play 1\nregions 1\nseal 0\n",
+        3,
+        ScriptKind::BadLine,
+    ),
     (b"", 1, ScriptKind::BadHeader),
     (b"\r", 1, ScriptKind::BadHeader),
     (b"\n", 1, ScriptKind::BadHeader),

@@ -120,7 +120,8 @@ fn tables_and_indexes_that_are_bad(rt: HostRuntime) -> Result<(), Fail> {
     Ok(())
 }
 
-// Lines of which a later one is bad: one column of an index, one index and one table too many.
+// Lines of which a later one is bad: one column of an index and one index too many, and an index and a table that
+// are declared twice.
 const LATER: [(&[u8], u32, ScriptKind); 4] = [
     (
         b"table c (k INT KEY, l INT, m INT, n INT, o INT)\nindex i on c (k, l, m, n, o)",
