@@ -7,12 +7,16 @@ use set_codec::{CodecFault, Limit, batch_bytes, batch_size, read_batch};
 use std::alloc::Global;
 use std::test::Fail;
 
-/// A number, which is the key, and another; the same with a text; and a table of which the key is the last
-/// column and then the first.
+/// A number, which is the key, and another.
 const NUMBERS: &str = "acc|id,amount|0|";
 
+/// A number, which is the key, and a text.
 const TEXTS: &str = "acc|id,amount:1024|0|";
 
+/// A number, which is the key, another that isn't null, and a text of at most 8 bytes.
+const NARROW: &str = "acc|id,amount!,note:8|0|";
+
+/// The table of numbers, and one of which the key is the last column and then the first.
 const TWO_TABLES: &str = "acc|id,amount|0|/place|owner:8,open:truth,no|20|";
 
 /// A batch of the two tables, and what it says.
@@ -54,7 +58,7 @@ fn told(alloc: Global, tables: &str, regions: u8, words: &str) -> Result<Option<
 }
 
 /// Batches of the table of numbers for so many regions, and what they are told.
-const OF_NUMBERS: [(u8, &str, Option<CodecFault>); 31] = [
+const OF_NUMBERS: [(u8, &str, Option<CodecFault>); 33] = [
     (1, "GGB1 0 #1 #1 #0 #1 0 1 @1 @10", None),
     (1, "GGB1 0 #1 #0", None),
     (1, "72 71 66 49 0 #1 #0", Some(CodecFault::BadTag(0))),
@@ -150,6 +154,12 @@ const OF_NUMBERS: [(u8, &str, Option<CodecFault>); 31] = [
         "GGB1 0 #1 #1 #0 #2 0 2 @2 0 2 @1",
         Some(CodecFault::NotOrdered(32)),
     ),
+    (1, "GGB1 0 #1 #1 #0 #1 0 2 0", Some(CodecFault::BadRow(23))),
+    (
+        1,
+        "GGB1 0 #1 #2 #0 #1 0 2 @1 #1",
+        Some(CodecFault::BadStart(32)),
+    ),
 ];
 
 #[test]
@@ -178,6 +188,51 @@ fn batches_of_texts(rt: HostRuntime) -> Result<(), Fail> {
         ),
     ] {
         assert_eq!(rt; told(rt.alloc(), TEXTS, 1, words)?, fault, "{words}");
+    }
+    Ok(())
+}
+
+#[test]
+fn columns_refuse_nulls_and_long_texts(rt: HostRuntime) -> Result<(), Fail> {
+    for (words, fault) in [
+        (
+            "GGB1 0 #1 #1 #0 #1 0 1 @1 @10 2 0 8 97 97 97 97 97 97 97 97",
+            None,
+        ),
+        (
+            "GGB1 0 #1 #1 #0 #1 0 1 @1 @10 2 0 9 97 97 97 97 97 97 97 97 97",
+            Some(CodecFault::BadRow(41)),
+        ),
+        ("GGB1 0 #1 #1 #0 #1 0 1 @1 @10 0", None),
+        (
+            "GGB1 0 #1 #1 #0 #1 0 1 @1 0 0",
+            Some(CodecFault::BadRow(32)),
+        ),
+    ] {
+        assert_eq!(rt; told(rt.alloc(), NARROW, 1, words)?, fault, "{words}");
+    }
+    Ok(())
+}
+
+/// The order of a change is tested behind its key, and before its other cells.
+#[test]
+fn batches_of_two_tables(rt: HostRuntime) -> Result<(), Fail> {
+    for (words, fault) in [
+        ("GGB1 0 #1 #1 #0 #2 0 2 @1 1 2 @1 2 0 1 97", None),
+        (
+            "GGB1 0 #1 #1 #0 #2 1 2 @1 2 0 1 97 0 2 @1",
+            Some(CodecFault::NotOrdered(36)),
+        ),
+        (
+            "GGB1 0 #1 #1 #0 #2 1 2 @1 2 0 1 97 0 2 0",
+            Some(CodecFault::BadRow(38)),
+        ),
+        (
+            "GGB1 0 #1 #1 #0 #2 1 2 @1 2 0 1 97 0 1 @1 5",
+            Some(CodecFault::NotOrdered(36)),
+        ),
+    ] {
+        assert_eq!(rt; told(rt.alloc(), TWO_TABLES, 1, words)?, fault, "{words}");
     }
     Ok(())
 }

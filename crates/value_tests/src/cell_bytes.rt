@@ -46,22 +46,28 @@ fn each_cell_has_its_spelling(rt: HostRuntime) -> Result<(), Fail> {
     Ok(())
 }
 
-fn fault_of(alloc: Global, words: &str) -> Result<Option<CellReadFault>, Fail> {
-    Ok(read_cell(alloc, &bytes_of(alloc, words)?, 0).err())
+/// The fault of the cell at the place.
+fn fault_of(alloc: Global, words: &str, at: usize) -> Result<Option<CellReadFault>, Fail> {
+    let bytes = bytes_of(alloc, words)?;
+    if at > bytes.len() {
+        return Err("a place behind the end".into());
+    }
+    Ok(read_cell(alloc, &bytes, at).err())
 }
 
 #[test]
 fn each_fault_of_a_cell_has_its_place(rt: HostRuntime) -> Result<(), Fail> {
-    for (bytes, fault) in [
-        ("", CellReadFault::Short(0)),
-        ("5", CellReadFault::BadTag(0)),
-        ("1 0 0 0 0 0 0 0", CellReadFault::Short(8)),
-        ("2 1", CellReadFault::Short(2)),
-        ("2 4 0", CellReadFault::Short(3)),
-        ("2 4 1", CellReadFault::TooLong(1)),
-        ("2 0 1 255", CellReadFault::BadUtf8(3)),
+    for (at, bytes, fault) in [
+        (0, "", CellReadFault::Short(0)),
+        (0, "5", CellReadFault::BadTag(0)),
+        (0, "1 0 0 0 0 0 0 0", CellReadFault::Short(8)),
+        (0, "2 1", CellReadFault::Short(2)),
+        (0, "2 4 0", CellReadFault::Short(3)),
+        (0, "2 4 1", CellReadFault::TooLong(1)),
+        (0, "2 0 1 255", CellReadFault::BadUtf8(3)),
+        (2, "9 9 2 0 1 255", CellReadFault::BadUtf8(5)),
     ] {
-        assert_eq!(rt; fault_of(rt.alloc(), bytes)?, Some(fault), "{bytes}");
+        assert_eq!(rt; fault_of(rt.alloc(), bytes, at)?, Some(fault), "{bytes}");
     }
     Ok(())
 }

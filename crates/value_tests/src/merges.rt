@@ -76,12 +76,12 @@ fn add_outcome(out: &mut String, outcome: &Outcome) -> Result<(), Fail> {
     match outcome {
         Outcome::Committed => out.push_str("; committed")?,
         Outcome::Changed(row, epoch) => {
-            out.push_str("; changed")?;
+            write!(out, "; changed {}", row.table)?;
             add_cells(out, row.key.cells())?;
             write!(out, " in {epoch}")?;
         }
         Outcome::Beaten(row, winner) => {
-            out.push_str("; beaten")?;
+            write!(out, "; beaten {}", row.table)?;
             add_cells(out, row.key.cells())?;
             write!(out, " by {}.{}.{}", winner.epoch, winner.region, winner.csn)?;
         }
@@ -180,22 +180,22 @@ fn is_followed(alloc: Global, cases: &[Case], rows: &str) -> Result<bool, Fail> 
 fn the_best_of_an_epoch_wins(rt: HostRuntime) -> Result<(), Fail> {
     let later_start: [Case; 3] = [
         (1, 0, 0, "1=10", "committed"),
-        (3, 0, 1, "1=11", "beaten 1 by 3.0.1"),
+        (3, 0, 1, "1=11", "beaten 0 1 by 3.0.1"),
         (3, 0, 2, "1=12", "committed"),
     ];
     let number_before_region: [Case; 3] = [
         (1, 0, 0, "9=9", "committed"),
-        (1, 0, 0, "1=10", "beaten 1 by 1.1.0"),
+        (1, 0, 0, "1=10", "beaten 0 1 by 1.1.0"),
         (1, 1, 0, "1=20", "committed"),
     ];
     let lesser_region: [Case; 2] = [
         (1, 0, 0, "1=10", "committed"),
-        (1, 1, 0, "1=20", "beaten 1 by 1.0.0"),
+        (1, 1, 0, "1=20", "beaten 0 1 by 1.0.0"),
     ];
     let beaten_by_a_loser: [Case; 3] = [
         (1, 0, 0, "1=1", "committed"),
-        (1, 0, 0, "1=2 2=2", "beaten 1 by 1.0.0"),
-        (1, 0, 0, "2=3", "beaten 2 by 1.0.1"),
+        (1, 0, 0, "1=2 2=2", "beaten 0 1 by 1.0.0"),
+        (1, 0, 0, "2=3", "beaten 0 2 by 1.0.1"),
     ];
     for (cases, rows) in [
         (later_start.as_slice(), "; 0 1 -> 1 12; end"),
@@ -216,7 +216,7 @@ fn a_change_after_the_start_aborts(rt: HostRuntime) -> Result<(), Fail> {
     let changed_since: [Case; 3] = [
         (1, 0, 0, "1=10", "committed"),
         (2, 0, 1, "1=12", "committed"),
-        (3, 0, 1, "1=11", "changed 1 in 2"),
+        (3, 0, 1, "1=11", "changed 0 1 in 2"),
     ];
     let changed_at_the_start: [Case; 3] = [
         (1, 0, 0, "1=10", "committed"),
@@ -226,7 +226,7 @@ fn a_change_after_the_start_aborts(rt: HostRuntime) -> Result<(), Fail> {
     let removed: [Case; 4] = [
         (1, 0, 0, "1=10 2=20", "committed"),
         (2, 1, 1, "1", "committed"),
-        (3, 0, 1, "1=11", "changed 1 in 2"),
+        (3, 0, 1, "1=11", "changed 0 1 in 2"),
         (3, 1, 2, "2=21 3", "committed"),
     ];
     for (cases, rows) in [

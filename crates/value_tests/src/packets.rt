@@ -10,7 +10,12 @@ const NUMBERS: &str = "acc|id,amount|0|";
 
 const TEXTS: &str = "acc|id,amount:1024|0|";
 
-fn is_question(alloc: Global, from: RegionNo, to: RegionNo, words: &str) -> Result<bool, Fail> {
+fn is_fetch_spelled(
+    alloc: Global,
+    from: RegionNo,
+    to: RegionNo,
+    words: &str,
+) -> Result<bool, Fail> {
     let packet = Packet::Fetch { from, to, epoch: 1 };
     let spelled = packet_bytes(alloc, &packet)?;
     let wanted = bytes_of(alloc, words)?;
@@ -28,7 +33,7 @@ fn is_read_as_it_is(alloc: Global, words: &str) -> Result<bool, Fail> {
 #[test]
 fn packets_have_their_spellings(rt: HostRuntime) -> Result<(), Fail> {
     let alloc = rt.alloc();
-    let asked = is_question(alloc, 1, 0, "2 1 0 0 0 0 1")?;
+    let asked = is_fetch_spelled(alloc, 1, 0, "2 1 0 0 0 0 1")?;
     let asks = is_read_as_it_is(alloc, "2 1 0 0 0 0 1")?;
     let carries = is_read_as_it_is(alloc, "1 1 GGB1 0 #1 #1 #0 #1 0 1 @1 @10")?;
     assert_eq!(rt; (asked, asks, carries), (true, true, true));
@@ -45,6 +50,9 @@ fn told(alloc: Global, regions: u8, words: &str) -> Result<Option<CodecFault>, F
 fn each_packet_fault_has_its_place(rt: HostRuntime) -> Result<(), Fail> {
     for (regions, words, fault) in [
         (2, "", Some(CodecFault::Short(0))),
+        (2, "1", Some(CodecFault::Short(1))),
+        (2, "2", Some(CodecFault::Short(1))),
+        (2, "2 1 0 0 0", Some(CodecFault::Short(5))),
         (2, "0 1 0 #1", Some(CodecFault::BadTag(0))),
         (2, "3 1 0 #1 0", Some(CodecFault::BadTag(0))),
         (2, "2 2 0 #1 0", Some(CodecFault::BadTag(1))),
@@ -68,6 +76,11 @@ fn each_packet_fault_has_its_place(rt: HostRuntime) -> Result<(), Fail> {
         (8, "1 0 GGB1 8 #1 #0", Some(CodecFault::BadTag(6))),
         (2, "1 1 GGB1 0 0", Some(CodecFault::Short(8))),
         (2, "1 1 GGB1 0 #1 #0 0", Some(CodecFault::Trailing(15))),
+        (
+            2,
+            "1 1 GGB1 0 #1 #4097",
+            Some(CodecFault::OverLimit(11, Limit::Candidates)),
+        ),
     ] {
         assert_eq!(rt; told(rt.alloc(), regions, words)?, fault, "{words}");
     }
@@ -152,11 +165,15 @@ fn limits_of_a_batch(rt: HostRuntime) -> Result<(), Fail> {
     let too_long = Some(CodecFault::OverLimit(4_194_304, Limit::BatchBytes));
     let too_long_packet = Some(CodecFault::OverLimit(4_194_306, Limit::BatchBytes));
     let no_packet = Some(CodecFault::BadTag(0));
+    let bad_to = Some(CodecFault::BadTag(1));
     for (front, last, told) in [
         ("", 965, (None, no_packet)),
         ("", 966, (too_long, no_packet)),
         ("1 1", 965, (too_long, None)),
         ("1 1", 966, (too_long, too_long_packet)),
+        ("1 1 0", 965, (too_long, too_long_packet)),
+        ("1 0", 966, (too_long, too_long_packet)),
+        ("1 2", 966, (too_long, bad_to)),
     ] {
         assert_eq!(rt;
             told_of_long(rt.alloc(), front, last)?,

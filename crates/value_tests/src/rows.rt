@@ -76,6 +76,7 @@ fn tables_are_found_by_names_and_numbers(rt: HostRuntime) -> Result<(), Fail> {
     for (name, no) in [("kv", Some(0)), ("people", Some(1)), ("b", None)] {
         assert!(rt; is_found(rt.alloc(), &schema, name, no)?, "{name}");
     }
+    assert_eq!(rt; schema.count(), 2);
     Ok(())
 }
 

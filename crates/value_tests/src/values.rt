@@ -7,7 +7,7 @@ use geo_base::{
 use std::alloc::Global;
 use std::test::Fail;
 
-/// A cell or two of each kind, rising.
+/// NULL, two numbers, four texts and both truths, rising.
 const RISING: &str = "- -2 1 ' 'Z 'a 'ab no yes";
 
 #[test]
