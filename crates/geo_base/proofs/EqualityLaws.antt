@@ -11,7 +11,7 @@ use Rattle.geo_base.specs.contracts.numbers.CandIdEq.TheImpl.Laws as candidate
 use Rattle.geo_base.specs.contracts.outcome.OutcomeEq.TheImpl.Laws as outcome
 use Rattle.geo_base.specs.Order.{row_eq}
 use Rattle.geo_base.specs.Equality.{candidate_eq, outcome_eq}
-use Rattle.geo_base.specs.OrderLaws.{row_eq_decides}
+use Rattle.geo_base.specs.laws.Orders.{row_eq_decides}
 
 same_number : (x y : ℕ) → (x == y) ≡ true → x ≡ y
 same_number x y h = grind (arith, nat_tests)

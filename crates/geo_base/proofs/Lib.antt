@@ -1,3 +1,1 @@
 pub mod EqualityLaws
-pub mod KeyFaults
-pub mod Winning

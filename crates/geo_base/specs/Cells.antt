@@ -4,6 +4,8 @@ use Rattle.std.specs.Option.{option_map}
 use Rattle.geo_base.specs.declared.limits.TheConstants.{MAX_TEXT_BYTES, MAX_KEY_CELLS, MAX_ROW_CELLS, MAX_LINE_CELLS}
 use Rattle.geo_base.specs.declared.cell.Cell.{Cell}
 use Rattle.geo_base.specs.declared.cell.Cell.TheVariants as cell
+use Rattle.geo_base.specs.declared.cell_type.CellType.{CellType}
+use Rattle.geo_base.specs.declared.cell_type.CellType.TheVariants as type
 use Rattle.geo_base.specs.declared.key.KeyFault.{KeyFault}
 use Rattle.geo_base.specs.declared.key.KeyFault.TheVariants as fault
 
@@ -16,6 +18,14 @@ pub record IsText (bytes : List ℕ) : Type 0 where
 abbrev pub is_null : Cell → Bool
 is_null cell.Null = true
 is_null _ = false
+
+-- the cell is of the type; NULL is of every type
+abbrev pub has_type : CellType → Cell → Bool
+has_type _ cell.Null = true
+has_type type.Int (cell.Int _) = true
+has_type type.Text (cell.Text _) = true
+has_type type.Truth (cell.Truth _) = true
+has_type _ _ = false
 
 -- why the cells are no key: a wrong number of them, and else the first that is NULL
 unfoldable pub key_fault : List Cell → Option KeyFault

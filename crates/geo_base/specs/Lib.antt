@@ -1,6 +1,8 @@
 pub mod Cells
 pub mod Claims
 pub mod Equality
-pub mod Hashed
 pub mod Order
-pub mod OrderLaws
+pub mod Results
+pub mod Texts
+pub mod inner
+pub mod laws

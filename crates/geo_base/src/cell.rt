@@ -4,10 +4,12 @@ ghost use Rattle.std.specs.Hash.{same_Alike};
 ghost use Rattle.std.specs.Ordering.{as_partial_cmp};
 ghost use Rattle.std.proofs.Common.{refl};
 ghost use Rattle.std.proofs.lemmas.Cmp.{eq_by_cmp_equiv};
-ghost use Rattle.geo_base.specs.Hashed.{cell_writes};
+ghost use Rattle.geo_base.specs.Cells.{is_null, has_type};
+ghost use Rattle.geo_base.specs.inner.Hashed.{cell_writes};
 ghost use Rattle.geo_base.specs.Order.{kind_of, cell_cmp, cell_eq};
-ghost use Rattle.geo_base.specs.OrderLaws.{cell_cmp_total, cell_eq_decides};
+ghost use Rattle.geo_base.specs.laws.Orders.{cell_cmp_total, cell_eq_decides};
 
+use crate::cell_type::CellType;
 use crate::duplicate::{Duplicate, NoMemory};
 use crate::txt::Txt;
 use std::alloc::Global;
@@ -25,6 +27,26 @@ pub enum Cell {
 }
 
 impl Cell {
+    /// Whether the cell is NULL.
+    pub fn is_null(&self) -> bool
+        ensures { result ≡ is_null self.now }
+    {
+        matches!(self, Cell::Null)
+    }
+
+    /// Whether the cell is of the type. NULL is of every type.
+    pub fn has_type(&self, of: CellType) -> bool
+        ensures { result ≡ has_type of self.now }
+    {
+        match (of, self) {
+            (_, Cell::Null) => true,
+            (CellType::Int, Cell::Int(_)) => true,
+            (CellType::Text, Cell::Text(_)) => true,
+            (CellType::Truth, Cell::Truth(_)) => true,
+            _ => false,
+        }
+    }
+
     fn kind(&self) -> u8
         ensures { result ≡ kind_of self.now }
     {

@@ -36,7 +36,7 @@ pub fn pack_claim(claim: Claim) -> u64
 }
 
 /// The claim of a word that [`pack_claim`] made; none below 2^32.
-#[tactic(auto, using(crate::proofs::Winning::word_of_injective), unfolding(crate::specs::Claims::word_of))]
+#[tactic(auto, using(crate::specs::laws::Winning::word_of_injective), unfolding(crate::specs::Claims::word_of))]
 pub fn unpack_claim(word: u64) -> Option<Claim>
     ensures none { IsNone result ↔ (word < 2 ^ 32) }
     ensures undoes { (claim : Claim) → IsClaim claim → word_of claim ≡ word → result ≡ Some claim }

@@ -27,6 +27,12 @@ pub trait Duplicate {
         ensures { IfOk result (λ c. c ≡ self.now) };
 }
 
+impl Duplicate for u8 {
+    fn copy(&self, _alloc: Global) -> Result<u8, NoMemory> {
+        Ok(*self)
+    }
+}
+
 /// Copies of all items, in their order.
 pub fn copy_items<T: Duplicate + Drop>(alloc: Global, items: &[T]) -> Result<Vec<T>, NoMemory>
     ensures { IfOk result (λ copies. copies.items ≡ items.now) }

@@ -4,9 +4,9 @@ ghost use Rattle.std.specs.Hash.{same_Alike};
 ghost use Rattle.std.specs.Ordering.{as_partial_cmp};
 ghost use Rattle.std.proofs.Common.{refl};
 ghost use Rattle.geo_base.specs.Cells.{IsKey, is_null, key_fault};
-ghost use Rattle.geo_base.specs.Hashed.{cells_writes};
+ghost use Rattle.geo_base.specs.inner.Hashed.{cells_writes};
 ghost use Rattle.geo_base.specs.Order.{cells_cmp, cells_eq};
-ghost use Rattle.geo_base.specs.OrderLaws.{cells_cmp_total, cells_eq_decides, cells_eq_equiv, cells_eq_ties};
+ghost use Rattle.geo_base.specs.laws.Orders.{cells_cmp_total, cells_eq_decides, cells_eq_equiv, cells_eq_ties};
 
 use crate::cell::Cell;
 use crate::duplicate::{Duplicate, NoMemory, copy_items};
@@ -49,7 +49,7 @@ fn first_null(cells: &[Cell]) -> Option<usize>
     ensures place { result ≡ position is_null cells.now }
     ensures within { IfSome result (λ place. place < length cells.now) }
 {
-    cells.iter().position(|cell| matches!(cell, Cell::Null))
+    cells.iter().position(|cell| cell.is_null())
 }
 
 impl Key {

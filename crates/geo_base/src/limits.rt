@@ -1,4 +1,5 @@
 //! The limits of regions, epochs, values, schemas and runs.
+ghost use Rattle.std.specs.Prelude.{◌≡◌};
 
 /// Regions of one database.
 pub const MAX_REGIONS: u8 = 8;
@@ -59,3 +60,27 @@ pub const PACKETS_PER_LINE: u32 = 10_000;
 
 /// The greatest number of an open epoch.
 pub const LAST_EPOCH: u32 = 4_294_967_294;
+
+/// What the limits are. Definitions cite them by their names, and this law says the numbers.
+pub fn limits_are_these()
+    ensures regions { MAX_REGIONS ≡ 8 }
+    ensures age { MAX_AGE ≡ 64 }
+    ensures ahead { MAX_AHEAD ≡ 8 }
+    ensures candidates { MAX_CANDIDATES ≡ 4096 }
+    ensures batch_bytes { MAX_BATCH_BYTES ≡ 4194304 }
+    ensures set_rows { MAX_SET_ROWS ≡ 1024 }
+    ensures set_bytes { MAX_SET_BYTES ≡ 1048576 }
+    ensures text_bytes { MAX_TEXT_BYTES ≡ 1024 }
+    ensures key_cells { MAX_KEY_CELLS ≡ 4 }
+    ensures row_cells { MAX_ROW_CELLS ≡ 32 }
+    ensures line_cells { MAX_LINE_CELLS ≡ 64 }
+    ensures tables { MAX_TABLES ≡ 64 }
+    ensures columns { MAX_COLUMNS ≡ 32 }
+    ensures indexes { MAX_INDEXES ≡ 4 }
+    ensures index_columns { MAX_INDEX_COLUMNS ≡ 4 }
+    ensures name_bytes { MAX_NAME_BYTES ≡ 32 }
+    ensures sessions { SESSIONS_PER_REGION ≡ 64 }
+    ensures script_bytes { SCRIPT_BYTES ≡ 16777216 }
+    ensures packets { PACKETS_PER_LINE ≡ 10000 }
+    ensures last_epoch { LAST_EPOCH ≡ 4294967294 }
+{}

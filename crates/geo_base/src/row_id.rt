@@ -2,9 +2,9 @@ ghost use Rattle.std.specs.Cmp.{partial_equiv_from_equiv, partial_order_from_agr
 ghost use Rattle.std.specs.Hash.{same_Alike};
 ghost use Rattle.std.specs.Ordering.{as_partial_cmp};
 ghost use Rattle.std.proofs.Common.{refl};
-ghost use Rattle.geo_base.specs.Hashed.{row_writes};
+ghost use Rattle.geo_base.specs.inner.Hashed.{row_writes};
 ghost use Rattle.geo_base.specs.Order.{row_cmp, row_eq};
-ghost use Rattle.geo_base.specs.OrderLaws.{row_cmp_total, row_eq_decides, row_eq_equiv, row_eq_ties};
+ghost use Rattle.geo_base.specs.laws.Orders.{row_cmp_total, row_eq_decides, row_eq_equiv, row_eq_ties};
 
 use crate::duplicate::{Duplicate, NoMemory};
 use crate::key::Key;
@@ -74,7 +74,7 @@ impl Hash for RowId {
 
     ghost respects_eq = { (same_Alike row_writes row_eq_decides).fed };
 
-    #[tactic(auto, unfolding(crate::specs::Hashed::row_writes))]
+    #[tactic(auto, unfolding(crate::specs::inner::Hashed::row_writes))]
     fn hash<H: Hasher>(&self, state: &mut H) {
         self.table.hash(state);
         self.key.hash(state);

@@ -4,7 +4,7 @@ ghost use Rattle.std.specs.Ordering.{as_partial_cmp};
 ghost use Rattle.std.proofs.Common.{refl};
 ghost use Rattle.geo_base.specs.Cells.{IsRowImage};
 ghost use Rattle.geo_base.specs.Order.{cells_cmp, cells_eq};
-ghost use Rattle.geo_base.specs.OrderLaws.{cells_cmp_total, cells_eq_equiv, cells_eq_ties};
+ghost use Rattle.geo_base.specs.laws.Orders.{cells_cmp_total, cells_eq_equiv, cells_eq_ties};
 
 use crate::cell::Cell;
 use crate::duplicate::{Duplicate, NoMemory, copy_items};

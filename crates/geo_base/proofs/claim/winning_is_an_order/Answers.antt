@@ -1,4 +1,4 @@
-use Rattle.geo_base.proofs.Winning.{beats_irreflexive, beats_transitive, beats_total, beats_word}
+use Rattle.geo_base.specs.laws.Winning.{beats_irreflexive, beats_transitive, beats_total, beats_word}
 use Rattle.geo_base.proofs.claim.winning_is_an_order.Goals as goal
 
 pub returns-clause-irreflexive : goal.returns-clause-irreflexive

@@ -1,4 +1,4 @@
-use Rattle.geo_base.specs.OrderLaws.{text_eq_decides, cell_eq_decides, cells_eq_decides, row_eq_decides}
+use Rattle.geo_base.specs.laws.Orders.{text_eq_decides, cell_eq_decides, cells_eq_decides, row_eq_decides}
 use Rattle.geo_base.proofs.EqualityLaws.{candidate_eq_decides, outcome_eq_decides}
 use Rattle.geo_base.proofs.equality.equal_values_are_one.Goals as goal
 

@@ -1,4 +1,4 @@
--- Cells are a key exactly where they have no fault.
+-- Laws: cells are a key exactly where they have no fault.
 use Rattle.std.proofs.Common.{◌≡◌, List, None, arith}
 use Rattle.std.proofs.lemmas.Bool.Decides.{nat_tests}
 use Rattle.geo_base.specs.declared.cell.Cell.{Cell}

@@ -1,4 +1,4 @@
--- What hashing a cell, a list of cells and a name of a row feeds a hasher.
+-- Inner: what hashing a cell, a list of cells and a name of a row feeds a hasher.
 use Rattle.std.specs.Prelude.{List, ◌++◌}
 use Rattle.std.specs.Hash as fed
 use Rattle.std.specs.Hash.{HashWrites}

@@ -1,4 +1,4 @@
--- The orders are total, and values that compare equal are one value.
+-- Laws: the orders are total, and values that compare equal are one value.
 use Rattle.std.proofs.Common.{◌≡◌, ◌≢◌, ◌⊎◌, inl, inr, ℕ, Bool, true, false, List, [], refl, ap, ◌∙◌, subst}
 use Rattle.std.specs.Prelude.{ℤ, pos}
 use Rattle.std.specs.Bool.{Decides}

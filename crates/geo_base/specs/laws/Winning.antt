@@ -1,4 +1,4 @@
--- The order of winning: strict, total on claims that differ, and the order of the words.
+-- Laws: the order of winning is strict, total on claims that differ, and the order of the words.
 use Rattle.std.proofs.Common.{◌≡◌, true, false, ◌∙◌, arith}
 use Rattle.std.specs.Prelude.{nat_lt}
 use Rattle.std.proofs.lemmas.Bool.Decides.{nat_tests}
