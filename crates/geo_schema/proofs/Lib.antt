@@ -1,6 +1,0 @@
-pub mod Apart
-pub mod Fits
-pub mod Keys
-pub mod Places
-pub mod Rules
-pub mod Steps

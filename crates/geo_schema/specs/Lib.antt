@@ -4,3 +4,4 @@ pub mod Repeats
 pub mod Rows
 pub mod Schemas
 pub mod Tables
+pub mod laws

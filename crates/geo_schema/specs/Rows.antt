@@ -1,10 +1,12 @@
 -- Which rows fit a table, and the key of a row.
-use Rattle.std.specs.Prelude.{ℕ, ◌+◌, Bool, true, false, ◌&&◌, ◌||◌, ◌==◌, nat_lt, nat_eq, if◌then◌else◌, Option, Some, None, List, [], ◌∷◌, length, map, slice_index_or}
+use Rattle.std.specs.Prelude.{ℕ, ◌+◌, Bool, false, ◌&&◌, ◌||◌, ◌==◌, nat_lt, nat_eq, if◌then◌else◌, Option, Some, None, List, [], ◌∷◌, length, map, slice_index_or}
 use Rattle.std.specs.List.{list_any}
 use Rattle.std.specs.Option.{option_or}
 use Rattle.geo_base.specs.declared.cell.Cell.{Cell}
 use Rattle.geo_base.specs.declared.cell.Cell.TheVariants as cell
-use Rattle.geo_base.specs.Cells.{is_null}
+use Rattle.geo_base.specs.declared.cell_type.CellType.{CellType}
+use Rattle.geo_base.specs.declared.cell_type.CellType.TheVariants as type
+use Rattle.geo_base.specs.Cells.{is_null, has_type}
 use Rattle.geo_schema.specs.declared.column.ColumnDef.{ColumnDef}
 use Rattle.geo_schema.specs.declared.column.Kind.{Kind}
 use Rattle.geo_schema.specs.declared.column.Kind.TheVariants as kind
@@ -12,13 +14,11 @@ use Rattle.geo_schema.specs.declared.fault.CellFault.{CellFault}
 use Rattle.geo_schema.specs.declared.fault.CellFault.TheVariants as fault
 use Rattle.geo_schema.specs.declared.table.TableDef.{TableDef}
 
--- the cell is of the type; NULL is of every type
-abbrev pub has_type : Kind → Cell → Bool
-has_type _ cell.Null = true
-has_type kind.Int (cell.Int _) = true
-has_type (kind.Text _) (cell.Text _) = true
-has_type kind.Truth (cell.Truth _) = true
-has_type _ _ = false
+-- the type of the cells of a column
+abbrev pub type_of : Kind → CellType
+type_of kind.Int = type.Int
+type_of (kind.Text _) = type.Text
+type_of kind.Truth = type.Truth
 
 -- the cell is a text of more bytes than the column takes
 abbrev pub is_too_long : Kind → Cell → Bool
@@ -32,7 +32,7 @@ is_in key place = list_any (λ p. nat_eq p place) key
 -- what is wrong with the cell of a column: its type, else a NULL where none may be, else its length
 unfoldable pub cell_fault : List ℕ → ColumnDef → ℕ → Cell → Option CellFault
 cell_fault key column place cell =
-    if has_type column.kind cell
+    if has_type (type_of column.kind) cell
     then (if is_null cell && (column.not_null || is_in key place) then Some (fault.NullNotAllowed place)
     else (if is_too_long column.kind cell then Some (fault.TextTooLong place) else None))
     else Some (fault.TypeClash place)

@@ -5,7 +5,7 @@ ghost use Rattle.std.specs.Option.{option_copied};
 ghost use Rattle.geo_schema.specs.Repeats.{first_repeat};
 
 /// Things of which a list may not have two that are alike: definitions of one name, or one place twice.
-pub trait Alike {
+pub(crate) trait Alike {
     ghost same: { Self → Self → Bool };
 
     fn is_alike(&self, other: &Self) -> bool
@@ -27,7 +27,7 @@ fn has_alike<T: Alike>(items: &[T], item: &T) -> bool
 }
 
 /// The first item that an earlier one is like. Compares each two of the items.
-pub fn first_repeat<T: Alike>(items: &[T]) -> Option<&T>
+pub(crate) fn first_repeat<T: Alike>(items: &[T]) -> Option<&T>
     ensures { option_copied result ≡ first_repeat T.same items.now }
 {
     for (place, item) in items.iter().enumerate() {

@@ -1,10 +1,10 @@
 ghost use Rattle.std.specs.Prelude.{◌≡◌};
 ghost use Rattle.geo_base.specs.Order.{text_eq};
+ghost use Rattle.geo_schema.specs.Rows.{type_of};
 
 use crate::alike::Alike;
-use geo_base::{Duplicate, NoMemory, Txt, copy_items};
+use geo_base::{CellType, Duplicate, Many, NoMemory, Txt};
 use std::alloc::Global;
-use std::marker::Model;
 
 /// The type of the cells of a column.
 #[derive(Clone, Copy, Debug, PartialEq, Eq)]
@@ -13,6 +13,19 @@ pub enum Kind {
     /// Texts of at most so many bytes.
     Text { max: u16 },
     Truth,
+}
+
+impl Kind {
+    /// The type of the column's cells that are not NULL.
+    pub fn cell_type(self) -> CellType
+        ensures { result ≡ type_of self }
+    {
+        match self {
+            Kind::Int => CellType::Int,
+            Kind::Text { .. } => CellType::Text,
+            Kind::Truth => CellType::Truth,
+        }
+    }
 }
 
 /// A column of a table.
@@ -42,40 +55,9 @@ impl Duplicate for ColumnDef {
     }
 }
 
-/// The columns of a table, from column 0 on.
-#[derive(Debug, Drop)]
-pub struct ColumnList {
-    items: Vec<ColumnDef>,
-}
+/// The columns of a table, from column 0 on. Their rules are tested by [`crate::Schema::new`].
+pub type ColumnList = Many<ColumnDef>;
 
-impl Model for ColumnList {
-    ghost use Rattle.std.specs.Prelude.{List};
-    ghost use Rattle.geo_schema.specs.declared.column.ColumnDef.{ColumnDef};
-
-    ghost Value = { List ColumnDef };
-
-    ghost view = { λ list. list.items.items };
-}
-
-impl ColumnList {
-    /// These columns, from column 0 on. The rules of columns are tested by [`crate::Schema::new`].
-    pub fn new(items: Vec<ColumnDef>) -> ColumnList
-        ensures { result ≡ items.items }
-    {
-        ColumnList { items }
-    }
-
-    /// The columns, from column 0 on.
-    pub fn items(&self) -> &[ColumnDef]
-        ensures { result.now ≡ self.now }
-    {
-        self.items.as_slice()
-    }
-}
-
-impl Duplicate for ColumnList {
-    fn copy(&self, alloc: Global) -> Result<ColumnList, NoMemory> {
-        let items = copy_items(alloc, self.items.as_slice())?;
-        Ok(ColumnList { items })
-    }
-}
+/// Columns by their places in the table, from 0: those of a key or of an index, in its order. That they
+/// are places of columns is tested by [`crate::Schema::new`].
+pub type PlaceList = Many<u8>;

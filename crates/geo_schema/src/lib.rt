@@ -7,25 +7,21 @@
 #![tactic(auto)]
 
 mod alike;
-mod cell_list;
 mod column;
 mod fault;
 mod index;
 mod laws;
-mod place_list;
 mod range;
 mod row_rule;
 mod schema;
 mod table;
 mod table_rule;
 
-pub use cell_list::CellList;
-pub use column::{ColumnDef, ColumnList, Kind};
+pub use column::{ColumnDef, ColumnList, Kind, PlaceList};
 pub use fault::{CellFault, SchemaFault};
 pub use index::{IndexDef, IndexList};
 pub use laws::{faultless_cells_are_rows, names_are_of_one_table};
-pub use place_list::PlaceList;
-pub use range::{Edge, KeyRange};
+pub use range::{CellList, Edge, KeyRange};
 pub use row_rule::{cell_fault, is_in};
 pub use schema::Schema;
 pub use table::TableDef;

@@ -1,9 +1,11 @@
 ghost use Rattle.std.specs.Prelude.{◌≡◌};
 ghost use Rattle.geo_schema.specs.Ranges.{beside, is_from, is_up_to, is_within};
 
-use crate::cell_list::CellList;
-use geo_base::Cell;
+use geo_base::{Cell, Many};
 use std::cmp::Ordering;
+
+/// Cells in an order, as those at the edge of a range.
+pub type CellList = Many<Cell>;
 
 /// An edge of a range of keys. Its cells are compared with as many of a key's first cells.
 #[derive(Debug, Drop)]

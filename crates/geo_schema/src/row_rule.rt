@@ -2,7 +2,7 @@
 ghost use Rattle.std.specs.Prelude.{◌≡◌, ◌<◌, ◌≤◌, true, length, map, slice_index_or, IfOk};
 ghost use Rattle.std.specs.List.{All};
 ghost use Rattle.geo_base.specs.declared.limits.TheConstants.{MAX_COLUMNS};
-ghost use Rattle.geo_schema.specs.Rows.{has_type, is_too_long, is_in, cell_fault, row_fault, key_cells};
+ghost use Rattle.geo_schema.specs.Rows.{is_too_long, is_in, cell_fault, row_fault, key_cells};
 ghost use Rattle.geo_schema.specs.Tables.{is_table};
 
 use crate::column::{ColumnDef, Kind};
@@ -10,18 +10,6 @@ use crate::fault::CellFault;
 use crate::table::TableDef;
 use geo_base::{Cell, Duplicate, Key, NoMemory};
 use std::alloc::Global;
-
-fn has_type(kind: Kind, cell: &Cell) -> bool
-    ensures { result ≡ has_type kind cell.now }
-{
-    match (kind, cell) {
-        (_, Cell::Null) => true,
-        (Kind::Int, Cell::Int(_)) => true,
-        (Kind::Text { .. }, Cell::Text(_)) => true,
-        (Kind::Truth, Cell::Truth(_)) => true,
-        _ => false,
-    }
-}
 
 fn is_too_long(kind: Kind, cell: &Cell) -> bool
     ensures { result ≡ is_too_long kind cell.now }
@@ -45,10 +33,10 @@ pub fn is_in(key: &[u8], place: u8) -> bool
 pub fn cell_fault(key: &[u8], column: &ColumnDef, place: u8, cell: &Cell) -> Option<CellFault>
     ensures { result ≡ cell_fault key.now column.now place cell.now }
 {
-    if !has_type(column.kind, cell) {
+    if !cell.has_type(column.kind.cell_type()) {
         return Some(CellFault::TypeClash(place));
     }
-    if matches!(cell, Cell::Null) && (column.not_null || is_in(key, place)) {
+    if cell.is_null() && (column.not_null || is_in(key, place)) {
         return Some(CellFault::NullNotAllowed(place));
     }
     if is_too_long(column.kind, cell) {
@@ -59,7 +47,7 @@ pub fn cell_fault(key: &[u8], column: &ColumnDef, place: u8, cell: &Cell) -> Opt
 
 /// Why the cells are no row of the table, if they are none. Takes a step for each cell and key place.
 #[tactic(auto, unfolding(crate::specs::Rows::row_fault))]
-pub fn row_fault(table: &TableDef, cells: &[Cell]) -> Option<CellFault>
+pub(crate) fn row_fault(table: &TableDef, cells: &[Cell]) -> Option<CellFault>
     requires { length table.now.columns ≤ MAX_COLUMNS }
     ensures { result ≡ row_fault table.now cells.now }
 {
@@ -78,7 +66,7 @@ pub fn row_fault(table: &TableDef, cells: &[Cell]) -> Option<CellFault>
 
 /// The key of a row that fits the table.
 #[tactic(auto, unfolding(crate::specs::Rows::key_cells))]
-pub fn key_of_row(alloc: Global, table: &TableDef, cells: &[Cell]) -> Result<Key, NoMemory>
+pub(crate) fn key_of_row(alloc: Global, table: &TableDef, cells: &[Cell]) -> Result<Key, NoMemory>
     requires rules { is_table table.now ≡ true }
     requires fits { row_fault table.now cells.now ≡ None }
     ensures { IfOk result (λ key. key ≡ key_cells table.now cells.now) }

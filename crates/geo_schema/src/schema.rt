@@ -72,7 +72,7 @@ impl Schema {
     }
 
     /// The number of the table with the name. Compares it with each table's.
-    #[tactic(auto, using(crate::proofs::Rules::few_tables))]
+    #[tactic(auto, using(crate::specs::laws::Rules::few_tables))]
     pub fn find(&self, name: &Txt) -> Option<TableNo>
         ensures { result ≡ number_of self.now name.now }
     {
@@ -81,7 +81,7 @@ impl Schema {
     }
 
     /// How many tables there are.
-    #[tactic(auto, using(crate::proofs::Rules::few_tables))]
+    #[tactic(auto, using(crate::specs::laws::Rules::few_tables))]
     pub fn count(&self) -> u8
         ensures count { result ≡ length self.now }
         ensures few { length self.now ≤ MAX_TABLES }
@@ -101,7 +101,7 @@ impl Schema {
 
     /// Whether the cells are a row of the table, and else which column is at fault first and why. Takes
     /// a step for each cell and key place.
-    #[tactic(auto, using(crate::proofs::Rules::few_columns))]
+    #[tactic(auto, using(crate::specs::laws::Rules::few_columns))]
     pub fn check_row(&self, table: TableNo, cells: &[Cell]) -> Result<(), CellFault>
         requires { table < length self.now }
         ensures { MatchResult result

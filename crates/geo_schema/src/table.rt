@@ -1,9 +1,8 @@
 ghost use Rattle.geo_base.specs.Order.{text_eq};
 
 use crate::alike::Alike;
-use crate::column::ColumnList;
+use crate::column::{ColumnList, PlaceList};
 use crate::index::IndexList;
-use crate::place_list::PlaceList;
 use geo_base::{Duplicate, NoMemory, Txt};
 use std::alloc::Global;
 

@@ -96,7 +96,7 @@ fn is_table(table: &TableDef) -> bool
 }
 
 /// The place of the first table that breaks a rule.
-pub fn first_bad_table(tables: &[TableDef]) -> Option<usize>
+pub(crate) fn first_bad_table(tables: &[TableDef]) -> Option<usize>
     ensures place { result ≡ position is_bad_table tables.now }
     ensures within { IfSome result (λ place. place < length tables.now) }
 {

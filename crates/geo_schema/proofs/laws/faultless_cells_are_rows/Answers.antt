@@ -1,4 +1,4 @@
-use Rattle.geo_schema.proofs.Fits.{row_fits, fit_rows}
+use Rattle.geo_schema.specs.laws.Fits.{row_fits, fit_rows}
 use Rattle.geo_schema.proofs.laws.faultless_cells_are_rows.Goals as goal
 
 pub returns : goal.returns

@@ -3,7 +3,7 @@ use Rattle.std.specs.List.{All}
 use Rattle.geo_base.specs.declared.cell.Cell.TheVariants as cell
 use Rattle.geo_base.specs.Cells.{key_fault}
 use Rattle.geo_schema.specs.Rows.{key_cells}
-use Rattle.geo_schema.proofs.Keys.{places_within, key_is_faultless, answers}
+use Rattle.geo_schema.specs.laws.Keys.{places_within, key_is_faultless, answers}
 use Rattle.geo_schema.proofs.row_rule.key_of_row.Goals as goal
 
 pub copy_places-requires : goal.copy_places-requires

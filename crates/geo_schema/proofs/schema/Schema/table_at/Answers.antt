@@ -1,5 +1,5 @@
 use Rattle.std.proofs.Common.{◌<◌, length, sym, subst}
-use Rattle.geo_schema.proofs.Rules.{keeps_rules}
+use Rattle.geo_schema.specs.laws.Rules.{keeps_rules}
 use Rattle.geo_schema.proofs.schema.Schema.table_at.Goals as goal
 
 pub returns-clause-rules : goal.returns-clause-rules

@@ -5,12 +5,12 @@ use Rattle.std.proofs.lemmas.Bool.{both_ways, false_from_ne_true, cases_order}
 use Rattle.std.proofs.lemmas.List.{get_or-take, length-take}
 use Rattle.std.proofs.lemmas.List.Folds.{list_any_at}
 use Rattle.std.proofs.lemmas.Option.{none-some}
-use Rattle.geo_base.specs.OrderLaws.{text_eq_decides}
+use Rattle.geo_base.specs.laws.Orders.{text_eq_decides}
 use Rattle.geo_schema.specs.declared.table.TableDef.{TableDef}
 use Rattle.geo_schema.specs.Repeats.{first_repeat, first_repeat_after}
 use Rattle.geo_schema.specs.Schemas.{IsSchema, table_at, no_table}
 use Rattle.geo_schema.specs.Tables.{same_table}
-use Rattle.geo_schema.proofs.Rules.{faultless}
+use Rattle.geo_schema.specs.laws.Rules.{faultless}
 
 module _ {A : Type 0} (same : A → A → Bool) where
   -- the first item is like none before it, and the rest has no repeat

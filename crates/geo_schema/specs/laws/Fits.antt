@@ -9,7 +9,7 @@ use Rattle.geo_schema.specs.declared.column.ColumnDef.{ColumnDef}
 use Rattle.geo_schema.specs.declared.table.TableDef.{TableDef}
 use Rattle.geo_schema.specs.Fitting.{Suits, IsRow}
 use Rattle.geo_schema.specs.Rows.{cell_fault, cells_fault, row_fault}
-use Rattle.geo_schema.proofs.Keys.{no_column, cell_faultless, row_count, row_cells}
+use Rattle.geo_schema.specs.laws.Keys.{no_column, cell_faultless, row_count, row_cells}
 
 -- ---- a cell
 

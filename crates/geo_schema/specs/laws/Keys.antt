@@ -10,15 +10,15 @@ use Rattle.std.proofs.lemmas.Option.{none-some}
 use Rattle.geo_base.specs.declared.cell.Cell.{Cell}
 use Rattle.geo_base.specs.declared.cell.Cell.TheVariants as cell
 use Rattle.geo_base.specs.Cells.{IsKey, is_null, key_fault}
-use Rattle.geo_base.proofs.KeyFaults.{key_fault_none}
+use Rattle.geo_base.specs.laws.Keys.{key_fault_none}
 use Rattle.geo_schema.specs.declared.column.ColumnDef.{ColumnDef}
 use Rattle.geo_schema.specs.declared.column.Kind.TheVariants as kind
 use Rattle.geo_schema.specs.declared.fault.CellFault.TheVariants as fault
 use Rattle.geo_schema.specs.declared.table.TableDef.{TableDef}
 use Rattle.geo_schema.specs.Tables.{is_table}
 use Rattle.geo_schema.specs.Rows.{is_in, is_too_long, cell_fault, cells_fault, row_fault, key_cells}
-use Rattle.geo_schema.proofs.Places.{none_found}
-use Rattle.geo_schema.proofs.Rules.{has_rules}
+use Rattle.geo_schema.specs.laws.Places.{none_found}
+use Rattle.geo_schema.specs.laws.Rules.{has_rules}
 
 -- a column for the place past the last one
 pub no_column : ColumnDef

@@ -11,7 +11,7 @@ use Rattle.geo_schema.specs.declared.table.TableDef.{TableDef}
 use Rattle.geo_schema.specs.Repeats.{first_repeat, is_distinct}
 use Rattle.geo_schema.specs.Tables.{is_count, is_column, same_column, same_table, are_columns, are_places, are_indexes, is_name, is_table, is_bad_table}
 use Rattle.geo_schema.specs.Schemas.{schema_fault, IsSchema}
-use Rattle.geo_schema.proofs.Places.{none_passes}
+use Rattle.geo_schema.specs.laws.Places.{none_passes}
 
 -- ---- tables
 
