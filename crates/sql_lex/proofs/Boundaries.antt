@@ -13,14 +13,16 @@ use Rattle.sql_lex.specs.declared.symbol.Symbol.TheVariants as symbol
 use Rattle.sql_lex.specs.declared.token.Piece.{Piece}
 use Rattle.sql_lex.specs.declared.token.TokenKind.{TokenKind}
 use Rattle.sql_lex.specs.declared.token.TokenKind.TheVariants as kind
-use Rattle.sql_lex.specs.Bytes.{is_blank, begins_word, is_in_word, is_plain}
-use Rattle.sql_lex.specs.Pieces.{piece}
+use Rattle.sql_lex.specs.Bytes.{is_blank, begins_word, is_in_word}
+use Rattle.sql_lex.specs.inner.Quoted.{is_plain}
+use Rattle.sql_lex.specs.inner.Pieces.{piece}
 use Rattle.sql_lex.specs.Symbols.{symbol_bytes}
-use Rattle.sql_lex.specs.Grammar.{doubled, Spells}
-use Rattle.sql_lex.proofs.Fronts.{nonempty, first_passes, rest_passes}
-use Rattle.sql_lex.proofs.WordBytes.{in_word_ascii, begins-in_word, zero-no_word}
-use Rattle.sql_lex.proofs.Spellings.{at_front}
-use Rattle.sql_lex.proofs.Cuts.{spelled_some}
+use Rattle.geo_base.specs.Texts.{doubled}
+use Rattle.sql_lex.specs.Grammar.{Spells}
+use Rattle.sql_lex.specs.laws.Fronts.{nonempty, first_passes, rest_passes}
+use Rattle.sql_lex.specs.laws.Bytes.{in_word_ascii, begins-in_word, zero-no_word}
+use Rattle.sql_lex.specs.laws.Spellings.{at_front}
+use Rattle.sql_lex.specs.laws.Cuts.{spelled_some}
 
 after_front : (p : ℕ → Bool) → ((b : ℕ) → p b ≡ true → b < 128) → p 0 ≡ false → (bytes : List ℕ) → IsUtf8 bytes → p (get_or bytes 0 0) ≡ true → IsCharBoundary bytes (prefix_len p bytes)
 after_front p ascii none bytes utf8 first =

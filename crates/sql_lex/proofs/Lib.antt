@@ -1,10 +1,4 @@
-pub mod Fronts
-pub mod WordBytes
-pub mod Quotes
-pub mod Keywords
-pub mod Spellings
-pub mod Taken
-pub mod Cuts
 pub mod Boundaries
+pub mod Lexing
+pub mod Quotes
 pub mod Values
-pub mod Slices

@@ -6,8 +6,8 @@ use Rattle.std.specs.List.{list_all}
 use Rattle.std.specs.Result.{result_ok}
 use Rattle.std.specs.Str.Parse.{AllDigits, IsNumeral, ParsesSigned, digits_value, without_leading_sign, signed_digits_value}
 use Rattle.std.specs.Prelude.{FitsSigned}
-use Rattle.sql_lex.specs.Pieces.{value_of}
-use Rattle.sql_lex.proofs.Fronts.{first_passes, rest_passes}
+use Rattle.sql_lex.specs.inner.Pieces.{value_of}
+use Rattle.sql_lex.specs.laws.Fronts.{first_passes, rest_passes}
 
 digit_is_below_ten : (b : ℕ) → is_ascii_digit b ≡ true → digit_value b < 10
 digit_is_below_ten b h = grind (arith, nat_tests)

@@ -1,5 +1,5 @@
 -- The kinds of byte that tokens are made of.
-use Rattle.std.specs.Prelude.{ℕ, Bool, not, ◌||◌, ◌==◌}
+use Rattle.std.specs.Prelude.{ℕ, Bool, ◌||◌, ◌==◌}
 use Rattle.std.specs.Char.{is_ascii_alphabetic, is_ascii_alphanumeric}
 
 -- a space or a tab
@@ -13,7 +13,3 @@ begins_word b = is_ascii_alphabetic b || b == 95
 -- an ASCII letter, a digit or `_`
 unfoldable pub is_in_word : ℕ → Bool
 is_in_word b = is_ascii_alphanumeric b || b == 95
-
--- no quote
-abbrev pub is_plain : ℕ → Bool
-is_plain b = not (b == 39)

@@ -1,9 +1,10 @@
 -- What spells a token, and what a text is that is cut into tokens.
-use Rattle.std.specs.Prelude.{◌≡◌, ◌≢◌, ◌<◌, ◌≤◌, ◌⊎◌, ◌^◌, ◌+◌, ◌==◌, ℕ, true, false, List, [], ◌∷◌, ◌++◌, length, slice_index, slice_range, if◌then◌else◌, pos}
+use Rattle.std.specs.Prelude.{◌≡◌, ◌≢◌, ◌<◌, ◌≤◌, ◌⊎◌, ◌^◌, ◌+◌, ℕ, true, false, List, [], ◌∷◌, ◌++◌, length, slice_index, slice_range, pos}
 use Rattle.std.specs.Char.{is_ascii_digit}
 use Rattle.std.specs.List.{list_all}
 use Rattle.std.specs.Str.Parse.{digits_value}
 use Rattle.geo_base.specs.declared.limits.TheConstants.{MAX_TEXT_BYTES, MAX_NAME_BYTES}
+use Rattle.geo_base.specs.Texts.{doubled}
 use Rattle.sql_lex.specs.declared.keyword.Keyword.{Keyword}
 use Rattle.sql_lex.specs.declared.symbol.Symbol.{Symbol}
 use Rattle.sql_lex.specs.declared.symbol.Symbol.TheVariants as symbol
@@ -29,11 +30,6 @@ pub record IsNumeral (value : ℕ) (bytes : List ℕ) : Type 0 where
   pub digits : list_all is_ascii_digit bytes ≡ true
   pub writes : value ≡ digits_value 10 bytes
   pub fits : value < 2 ^ 63
-
--- the content with each of its quotes written twice
-abbrev pub doubled : List ℕ → List ℕ
-doubled [] = []
-doubled (b ∷ bytes) = if b == 39 then 39 ∷ (39 ∷ doubled bytes) else b ∷ doubled bytes
 
 -- the bytes spell the token
 abbrev pub Spells : TokenKind → List ℕ → Type 0

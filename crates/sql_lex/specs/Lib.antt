@@ -1,7 +1,6 @@
 pub mod Bytes
-pub mod Keywords
-pub mod Quoted
-pub mod Symbols
-pub mod Pieces
-pub mod Tokens
 pub mod Grammar
+pub mod Keywords
+pub mod Symbols
+pub mod inner
+pub mod laws

@@ -4,10 +4,11 @@ ghost use Rattle.std.specs.Prelude.{◌≡◌, ◌≤◌, ◌<◌, length, slice
 ghost use Rattle.std.specs.List.{prefix_len};
 ghost use Rattle.std.specs.Char.{is_ascii_digit};
 ghost use Rattle.sql_lex.specs.Bytes as spec;
+ghost use Rattle.sql_lex.specs.inner.Quoted.{is_plain};
 
 /// A space or a tab.
 #[tactic(auto, unfolding(crate::specs::Bytes::is_blank))]
-pub fn is_blank(b: u8) -> bool
+pub(crate) fn is_blank(b: u8) -> bool
     ensures { result ≡ spec.is_blank b }
 {
     b == b' ' || b == b'\t'
@@ -15,7 +16,7 @@ pub fn is_blank(b: u8) -> bool
 
 /// An ASCII letter or `_`.
 #[tactic(auto, unfolding(crate::specs::Bytes::begins_word))]
-pub fn begins_word(b: u8) -> bool
+pub(crate) fn begins_word(b: u8) -> bool
     ensures { result ≡ spec.begins_word b }
 {
     b.is_ascii_alphabetic() || b == b'_'
@@ -30,14 +31,14 @@ fn is_in_word(b: u8) -> bool
 }
 
 /// The byte at a place, and 0 past the end.
-pub fn byte_at(bytes: &[u8], at: usize) -> u8
+pub(crate) fn byte_at(bytes: &[u8], at: usize) -> u8
     ensures { result ≡ slice_index bytes.now at }
 {
     if at < bytes.len() { bytes[at] } else { 0 }
 }
 
 /// How many bytes at the front may stand in a word.
-pub fn word_len(bytes: &[u8]) -> usize
+pub(crate) fn word_len(bytes: &[u8]) -> usize
     ensures value { result ≡ prefix_len spec.is_in_word bytes.now }
     ensures within { result ≤ length bytes.now }
 {
@@ -49,7 +50,7 @@ pub fn word_len(bytes: &[u8]) -> usize
 }
 
 /// How many bytes at the front are digits.
-pub fn digits_len(bytes: &[u8]) -> usize
+pub(crate) fn digits_len(bytes: &[u8]) -> usize
     ensures value { result ≡ prefix_len is_ascii_digit bytes.now }
     ensures within { result ≤ length bytes.now }
 {
@@ -61,8 +62,8 @@ pub fn digits_len(bytes: &[u8]) -> usize
 }
 
 /// How many bytes there are before the first quote.
-pub fn plain_len(bytes: &[u8]) -> usize
-    ensures value { result ≡ prefix_len spec.is_plain bytes.now }
+pub(crate) fn plain_len(bytes: &[u8]) -> usize
+    ensures value { result ≡ prefix_len is_plain bytes.now }
     ensures within { result ≤ length bytes.now }
 {
     let mut len = 0;

@@ -3,7 +3,7 @@
 ghost use Rattle.std.specs.Prelude.{◌≡◌, ◌<◌, length, slice_index, true};
 ghost use Rattle.std.specs.Char.{is_ascii_digit};
 ghost use Rattle.std.specs.List.{list_all};
-ghost use Rattle.sql_lex.specs.Pieces as spec;
+ghost use Rattle.sql_lex.specs.inner.Pieces as spec;
 
 use crate::bytes::{begins_word, byte_at, digits_len};
 use crate::token::{Piece, TokenKind};
@@ -17,7 +17,7 @@ fn value_of(digits: &str) -> Option<i64>
 }
 
 /// The integer at the front.
-pub fn integer_at(text: &str) -> Option<Piece>
+pub(crate) fn integer_at(text: &str) -> Option<Piece>
     requires { is_ascii_digit (slice_index text.now 0) ≡ true }
     ensures { result ≡ spec.integer_piece text.now }
 {

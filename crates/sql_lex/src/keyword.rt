@@ -2,7 +2,7 @@
 
 ghost use Rattle.std.specs.Prelude.{◌≡◌, map};
 ghost use Rattle.std.specs.Str.{str_eq_ignore_ascii_case};
-ghost use Rattle.sql_lex.specs.Keywords as spec;
+ghost use Rattle.sql_lex.specs.inner.Keywords as spec;
 
 /// A word that is never a name, in any mix of case.
 #[derive(Clone, Copy, Debug, PartialEq, Eq)]
@@ -114,8 +114,8 @@ fn lookup(mut table: &[(&[u8], Keyword)], word: &[u8]) -> Option<Keyword>
 }
 
 /// The keyword that the word is, in any mix of case.
-#[tactic(auto, unfolding(crate::specs::Keywords::keyword_of, crate::specs::Keywords::keywords))]
-pub fn keyword_of(word: &[u8]) -> Option<Keyword>
+#[tactic(auto, unfolding(crate::specs::inner::Keywords::keyword_of, crate::specs::inner::Keywords::keywords))]
+pub(crate) fn keyword_of(word: &[u8]) -> Option<Keyword>
     ensures { result ≡ spec.keyword_of word.now }
 {
     lookup(&KEYWORDS, word)

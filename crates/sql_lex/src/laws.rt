@@ -1,15 +1,16 @@
-//! What the tokens of a text are, in the terms of what spells each of them.
+//! That the steps by which the code cuts a text come to what the grammar says of it.
 
 ghost use Rattle.std.specs.Prelude.{◌≡◌, ◌↔◌, ℕ, List};
 ghost use Rattle.sql_lex.specs.declared.token.Token.{Token};
 ghost use Rattle.sql_lex.specs.declared.token.LexFault.{LexFault};
 ghost use Rattle.sql_lex.specs.declared.keyword.Keyword.{Keyword};
-ghost use Rattle.sql_lex.specs.Keywords.{IsKeyword, keyword_of};
-ghost use Rattle.sql_lex.specs.Tokens.{tokens_of};
+ghost use Rattle.sql_lex.specs.Keywords.{IsKeyword};
+ghost use Rattle.sql_lex.specs.inner.Keywords.{keyword_of};
+ghost use Rattle.sql_lex.specs.inner.Tokens.{tokens_of};
 ghost use Rattle.sql_lex.specs.Grammar.{AreSlicesFrom, AreTokensOf, StopsAt};
 
-/// The tokens of a text are those, and no others, that the text spells one after another, with
-/// nothing but blanks beside them, each as long as it can be.
+/// The code's steps cut a text into those tokens, and no others, that the text spells one after
+/// another, with nothing but blanks beside them, each as long as it can be.
 pub fn tokens_are_the_text()
     ensures { (text : List ℕ) (tokens : List Token) →
         (tokens_of text ≡ Ok tokens) ↔ AreTokensOf tokens text }
@@ -18,10 +19,10 @@ pub fn tokens_are_the_text()
 /// The spans of the tokens rise, lie in the text, and hold what spells each of them.
 pub fn tokens_are_slices()
     ensures { (text : List ℕ) (tokens : List Token) →
-        tokens_of text ≡ Ok tokens → AreSlicesFrom 0 text tokens }
+        AreTokensOf tokens text → AreSlicesFrom 0 text tokens }
 {}
 
-/// A text has a fault exactly where the tokens before it end, blanks skipped, and no token begins.
+/// The code's steps stop exactly where the tokens before it end, blanks skipped, and no token begins.
 pub fn faults_are_where_no_token_begins()
     ensures place { (text : List ℕ) (at : ℕ) →
         (tokens_of text ≡ Err (LexFault.BadText at)) ↔ StopsAt text at }

@@ -2,8 +2,8 @@
 
 ghost use Rattle.std.specs.Prelude.{◌≡◌, ◌≤◌, ◌<◌, length, slice_index, string_bytes, IfOk, IfSome};
 ghost use Rattle.std.specs.Option.{option_map};
-ghost use Rattle.sql_lex.specs.Quoted as spec;
-ghost use Rattle.sql_lex.specs.Pieces.{text_piece};
+ghost use Rattle.sql_lex.specs.inner.Quoted as spec;
+ghost use Rattle.sql_lex.specs.inner.Pieces.{text_piece};
 
 use crate::bytes::{byte_at, plain_len};
 use crate::token::{Piece, TokenKind};
@@ -39,7 +39,7 @@ fn content_of(alloc: Global, quoted: &str) -> Result<Option<(String, usize)>, No
 }
 
 /// The quoted text at the front.
-pub fn text_at(alloc: Global, text: &str) -> Result<Option<Piece>, NoMemory>
+pub(crate) fn text_at(alloc: Global, text: &str) -> Result<Option<Piece>, NoMemory>
     requires { slice_index text.now 0 ≡ 39 }
     ensures { IfOk result (λ found. found ≡ text_piece text.now) }
 {

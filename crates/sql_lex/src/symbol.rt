@@ -1,8 +1,9 @@
 //! Symbols, of which the longest one is taken.
 
 ghost use Rattle.std.specs.Prelude.{◌≡◌, ◌<◌, length, slice_index};
-ghost use Rattle.sql_lex.specs.Symbols as spec;
-ghost use Rattle.sql_lex.specs.Pieces.{symbol_piece};
+ghost use Rattle.sql_lex.specs.Symbols.{symbol_bytes};
+ghost use Rattle.sql_lex.specs.inner.Pieces.{symbol_piece};
+ghost use Rattle.sql_lex.specs.inner.Symbols as spec;
 
 use crate::bytes::byte_at;
 use crate::token::{Piece, TokenKind};
@@ -73,7 +74,7 @@ fn symbol_of(first: u8, next: u8) -> Option<Symbol>
 }
 
 fn symbol_len(symbol: Symbol) -> usize
-    ensures { result ≡ length (spec.symbol_bytes symbol) }
+    ensures { result ≡ length (symbol_bytes symbol) }
 {
     match symbol {
         Symbol::Differ | Symbol::LessEqual | Symbol::MoreEqual => 2,
@@ -82,7 +83,7 @@ fn symbol_len(symbol: Symbol) -> usize
 }
 
 /// The symbol at the front.
-pub fn symbol_at(bytes: &[u8]) -> Option<Piece>
+pub(crate) fn symbol_at(bytes: &[u8]) -> Option<Piece>
     ensures { result ≡ symbol_piece bytes.now }
 {
     let symbol = symbol_of(byte_at(bytes, 0), byte_at(bytes, 1))?;

@@ -31,7 +31,7 @@ pub struct Token {
 
 /// A token at the front of a text, and how many bytes it takes.
 #[derive(Debug, Drop)]
-pub struct Piece {
+pub(crate) struct Piece {
     pub kind: TokenKind,
     pub len: usize,
 }

@@ -1,10 +1,11 @@
 //! Cuts a text into its tokens.
 
 ghost use Rattle.std.specs.Prelude.{◌≡◌, ◌⊎◌, ◌<◌, ◌^◌, ℕ, List, length, IfOk, IfErr, MatchResult};
+ghost use Rattle.geo_base.specs.Results.{Gives};
 ghost use Rattle.sql_lex.specs.declared.token.Token.{Token};
-ghost use Rattle.sql_lex.specs.Pieces as spec;
-ghost use Rattle.sql_lex.specs.Grammar.{AreTokensOf, StopsAt};
-ghost use Rattle.sql_lex.specs.Tokens.{tokens_of};
+ghost use Rattle.sql_lex.specs.inner.Pieces as spec;
+ghost use Rattle.sql_lex.specs.Grammar.{AreTokensOf, AreSlicesFrom, StopsAt};
+ghost use Rattle.sql_lex.specs.inner.Tokens.{tokens_of};
 
 use crate::bytes::{begins_word, is_blank};
 use crate::integer::integer_at;
@@ -16,7 +17,7 @@ use geo_base::NoMemory;
 use std::alloc::Global;
 
 /// The token at the front.
-#[tactic(auto, unfolding(crate::specs::Pieces::piece))]
+#[tactic(auto, unfolding(crate::specs::inner::Pieces::piece))]
 fn piece_at(alloc: Global, text: &str) -> Result<Option<Piece>, NoMemory>
     requires { 0 < length text.now }
     ensures { IfOk result (λ found. found ≡ spec.piece text.now) }
@@ -37,9 +38,7 @@ fn piece_at(alloc: Global, text: &str) -> Result<Option<Piece>, NoMemory>
 // The tokens of a text.
 fn cut_text(alloc: Global, text: &str) -> Result<Vec<Token>, LexFault>
     requires { length text.now < 2 ^ 32 }
-    ensures { MatchResult result
-        (λ tokens. tokens_of text.now ≡ Ok tokens.items)
-        (λ fault. (fault ≡ LexFault.NoMemory) ⊎ (tokens_of text.now ≡ Err fault)) }
+    ensures { Gives LexFault.NoMemory (λ tokens. tokens.items) result (tokens_of text.now) }
 {
     let mut tokens = Vec::new(alloc);
     let mut rest = text;
@@ -66,15 +65,13 @@ fn cut_text(alloc: Global, text: &str) -> Result<Vec<Token>, LexFault>
 
 /// Cuts a text into its tokens, the one way to do so. The fault is at the first place where a token
 /// would have to begin and none does. Takes time that grows as the text's length.
-#[tactic(auto, using(crate::proofs::Cuts::tokens_are_cut, crate::proofs::Cuts::fault_stops, crate::proofs::Cuts::no_other_tokens, crate::proofs::Cuts::no_fault))]
 pub fn lex(alloc: Global, text: &str) -> Result<Vec<Token>, LexFault>
     requires { length text.now < 2 ^ 32 }
-    ensures exact { MatchResult result
-        (λ tokens. tokens_of text.now ≡ Ok tokens.items)
-        (λ fault. (fault ≡ LexFault.NoMemory) ⊎ (tokens_of text.now ≡ Err fault)) }
-    ensures only { (tokens : List Token) → AreTokensOf tokens text.now → MatchResult result (λ found. found.items ≡ tokens) (λ fault. fault ≡ LexFault.NoMemory) }
     ensures cut { IfOk result (λ tokens. AreTokensOf tokens.items text.now) }
+    ensures slices { IfOk result (λ tokens. AreSlicesFrom 0 text.now tokens.items) }
+    ensures only { (tokens : List Token) → AreTokensOf tokens text.now → MatchResult result (λ found. found.items ≡ tokens) (λ fault. fault ≡ LexFault.NoMemory) }
     ensures stops { IfErr result (λ fault. (fault ≡ LexFault.NoMemory) ⊎ ((at : ℕ) × (fault ≡ LexFault.BadText at) × StopsAt text.now at)) }
+    ensures only_there { (at : ℕ) → StopsAt text.now at → MatchResult result (λ _. ⊥) (λ fault. (fault ≡ LexFault.NoMemory) ⊎ (fault ≡ LexFault.BadText at)) }
 {
     cut_text(alloc, text)
 }

@@ -2,7 +2,7 @@
 
 ghost use Rattle.std.specs.Prelude.{◌≡◌, ◌≤◌, length, slice_index, IfOk, true};
 ghost use Rattle.sql_lex.specs.Bytes.{begins_word};
-ghost use Rattle.sql_lex.specs.Pieces as spec;
+ghost use Rattle.sql_lex.specs.inner.Pieces as spec;
 
 use crate::bytes::word_len;
 use crate::keyword::keyword_of;
@@ -12,7 +12,7 @@ use geo_base::{NoMemory, Txt, TxtFault};
 use std::alloc::Global;
 
 /// A text that is short enough.
-pub fn short_text(alloc: Global, text: &str) -> Result<Txt, NoMemory>
+pub(crate) fn short_text(alloc: Global, text: &str) -> Result<Txt, NoMemory>
     requires { length text.now ≤ MAX_TEXT_BYTES }
     ensures { IfOk result (λ t. t ≡ text.now) }
 {
@@ -34,7 +34,7 @@ fn word_kind(alloc: Global, word: &str) -> Result<TokenKind, NoMemory>
 }
 
 /// The name or keyword at the front.
-pub fn word_at(alloc: Global, text: &str) -> Result<Option<Piece>, NoMemory>
+pub(crate) fn word_at(alloc: Global, text: &str) -> Result<Option<Piece>, NoMemory>
     requires { begins_word (slice_index text.now 0) ≡ true }
     ensures { IfOk result (λ found. found ≡ spec.word_piece text.now) }
 {

@@ -2,7 +2,7 @@ use Rattle.std.proofs.Common.{◌≡◌, take, IsCharBoundary, sym, ap, ◌∙�
 use Rattle.std.specs.Char.{is_ascii_digit}
 use Rattle.std.specs.List.{prefix_len, list_all}
 use Rattle.sql_lex.proofs.Boundaries.{after_digits}
-use Rattle.sql_lex.proofs.Fronts.{passing}
+use Rattle.sql_lex.specs.laws.Fronts.{passing}
 use Rattle.sql_lex.proofs.integer.integer_at.Goals as goal
 
 pub split_at-requires : goal.split_at-requires

@@ -1,5 +1,5 @@
 use Rattle.std.proofs.Common.{◌≡◌, length, map}
-use Rattle.sql_lex.specs.Keywords.{lookup}
+use Rattle.sql_lex.specs.inner.Keywords.{lookup}
 use Rattle.sql_lex.proofs.keyword.lookup.Given as goal
 
 abbrev pub invariant-loop-table : goal.invariant-loop-table

@@ -1,4 +1,4 @@
-use Rattle.sql_lex.proofs.Cuts.{tokens_are_cut, cut_is_tokens}
+use Rattle.sql_lex.specs.laws.Cuts.{tokens_are_cut, cut_is_tokens}
 use Rattle.sql_lex.proofs.laws.tokens_are_the_text.Goals as goal
 
 pub returns : goal.returns

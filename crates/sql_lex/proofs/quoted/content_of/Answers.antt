@@ -1,7 +1,7 @@
 use Rattle.std.proofs.Common.{[], ◌∷◌, ◌-◌, drop, Some, ◌≡◌, ◌<◌, ◌≤◌, ◌++◌, length, get_or, string_bytes, IsUtf8, IsCharBoundary, sym, ap, ◌∙◌, subst, arith, length-append, true-eqb, false-eqb}
 use Rattle.std.specs.List.{prefix_len}
 use Rattle.geo_base.specs.declared.limits.TheConstants.{MAX_TEXT_BYTES}
-use Rattle.sql_lex.specs.Bytes.{is_plain}
+use Rattle.sql_lex.specs.inner.Quoted.{is_plain}
 use Rattle.sql_lex.proofs.Boundaries.{some_byte, before_quote, after_one, from_quote_utf8, from_quote_quote, after_one_utf8}
 use Rattle.sql_lex.proofs.Quotes.{IsReadUpTo, read_run_at, read_quotes, unclosed, too_long, closed}
 use Rattle.sql_lex.proofs.quoted.content_of.Goals as goal

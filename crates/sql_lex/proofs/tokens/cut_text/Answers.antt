@@ -1,8 +1,8 @@
 use Rattle.std.proofs.Common.{◌≡◌, ◌<◌, true, false, length, get_or, Some, None, sym, ap, ◌∙◌, subst, arith, inr, true-eqb, false-eqb, length-drop}
 use Rattle.sql_lex.specs.Bytes.{is_blank}
-use Rattle.sql_lex.specs.Pieces.{piece}
+use Rattle.sql_lex.specs.inner.Pieces.{piece}
 use Rattle.sql_lex.proofs.Boundaries.{after_blank, after_blank_utf8, after_piece, after_piece_utf8}
-use Rattle.sql_lex.proofs.Cuts.{IsLexedUpTo, lexed_nothing, lexed_blank, lexed_token, lexed_fault, lexed_all, piece_within}
+use Rattle.sql_lex.proofs.Lexing.{IsLexedUpTo, lexed_nothing, lexed_blank, lexed_token, lexed_fault, lexed_all, piece_within}
 use Rattle.sql_lex.proofs.tokens.cut_text.Goals as goal
 
 pub loop-rest-init : goal.loop-rest-init

@@ -1,5 +1,5 @@
 use Rattle.std.proofs.Common.{length, IsUtf8}
-use Rattle.sql_lex.proofs.Cuts.{IsLexedUpTo}
+use Rattle.sql_lex.proofs.Lexing.{IsLexedUpTo}
 use Rattle.sql_lex.proofs.tokens.cut_text.Given as goal
 
 abbrev pub invariant-loop-rest : goal.invariant-loop-rest

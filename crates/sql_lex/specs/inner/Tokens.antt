@@ -1,11 +1,11 @@
--- The tokens of a text.
+-- Inner: how the code cuts a text into tokens, one after another.
 use Rattle.std.specs.Prelude.{ℕ, zero, suc, ◌+◌, ◌-◌, List, [], ◌∷◌, if◌then◌else◌, Option, Some, None, Result, Ok, Err}
 use Rattle.sql_lex.specs.declared.token.LexFault.{LexFault}
 use Rattle.sql_lex.specs.declared.token.LexFault.TheVariants.{BadText}
 use Rattle.sql_lex.specs.declared.token.Piece.{Piece}
 use Rattle.sql_lex.specs.declared.token.Token.{Token}
 use Rattle.sql_lex.specs.Bytes.{is_blank}
-use Rattle.sql_lex.specs.Pieces.{piece}
+use Rattle.sql_lex.specs.inner.Pieces.{piece}
 
 -- what a text was cut into
 abbrev pub Tokens : Type 0

@@ -1,7 +1,11 @@
--- Texts between quotes, where a quote of the content is written twice.
-use Rattle.std.specs.Prelude.{ℕ, ◌+◌, List, [], ◌∷◌, ◌==◌, nat_le, length, if◌then◌else◌, Option, Some, None}
+-- Inner: how the code reads a text between quotes, where a quote of the content is written twice.
+use Rattle.std.specs.Prelude.{ℕ, ◌+◌, Bool, not, List, [], ◌∷◌, ◌==◌, nat_le, length, if◌then◌else◌, Option, Some, None}
 use Rattle.std.specs.Option.{option_map}
 use Rattle.geo_base.specs.declared.limits.TheConstants.{MAX_TEXT_BYTES}
+
+-- no quote
+abbrev pub is_plain : ℕ → Bool
+is_plain b = not (b == 39)
 
 -- a byte more of content, which takes this many bytes
 abbrev pub with_byte : ℕ → ℕ → Option (List ℕ × ℕ) → Option (List ℕ × ℕ)

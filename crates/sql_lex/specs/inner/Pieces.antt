@@ -1,4 +1,4 @@
--- The token at the front of the bytes, and how many bytes it takes. Nothing where no token begins there.
+-- Inner: the token that the code takes at the front of the bytes, and how many bytes it takes. Nothing where no token begins there.
 use Rattle.std.specs.Prelude.{ℕ, ◌+◌, ◌^◌, List, length, take, drop, slice_index, ◌==◌, nat_le, nat_lt, if◌then◌else◌, Option, Some, None, ℤ, pos}
 use Rattle.std.specs.Char.{is_ascii_digit}
 use Rattle.std.specs.List.{prefix_len}
@@ -10,9 +10,10 @@ use Rattle.sql_lex.specs.declared.token.Piece.{Piece}
 use Rattle.sql_lex.specs.declared.token.TokenKind.{TokenKind}
 use Rattle.sql_lex.specs.declared.token.TokenKind.TheVariants as kind
 use Rattle.sql_lex.specs.Bytes.{begins_word, is_in_word}
-use Rattle.sql_lex.specs.Keywords.{keyword_of}
-use Rattle.sql_lex.specs.Quoted.{short_content}
-use Rattle.sql_lex.specs.Symbols.{symbol_bytes, symbol_of}
+use Rattle.sql_lex.specs.inner.Keywords.{keyword_of}
+use Rattle.sql_lex.specs.inner.Quoted.{short_content}
+use Rattle.sql_lex.specs.Symbols.{symbol_bytes}
+use Rattle.sql_lex.specs.inner.Symbols.{symbol_of}
 
 abbrev pub piece_of : TokenKind → ℕ → Piece
 piece_of kind len = record { kind = kind; len = len }

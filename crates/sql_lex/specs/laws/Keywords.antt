@@ -1,11 +1,12 @@
--- The table of the keywords finds the words that are keywords, and no others.
+-- Laws: the table of the keywords finds the words that are keywords, and no others.
 use Rattle.std.proofs.Common.{◌≡◌, ℕ, Bool, true, false, cond, List, [], ◌∷◌, map, Some, None, refl, sym, subst, ◌∙◌}
 use Rattle.std.proofs.lemmas.Slice.Eq.{bytes_eq-Decides}
 use Rattle.std.specs.Prelude.{◌↔◌}
 use Rattle.std.specs.Str.{str_eq_ignore_ascii_case, str_to_ascii_lowercase, bytes_eq}
 use Rattle.sql_lex.specs.declared.keyword.Keyword.{Keyword}
 use Rattle.sql_lex.specs.declared.keyword.Keyword.TheVariants.{KSelect, KInsert, KInto, KValues, KUpdate, KSet, KDelete, KFrom, KWhere, KJoin, KOn, KGroup, KBy, KOrder, KAsc, KDesc, KLimit, KAs, KBegin, KOf, KEpoch, KCommit, KRollback, KExplain, KAnd, KOr, KNot, KIs, KNull, KTrue, KFalse, KCount, KSum, KMin, KMax, KInt, KText, KBool, KKey, KFor, KUnique}
-use Rattle.sql_lex.specs.Keywords.{capitals, IsKeyword, every_keyword, keywords, lookup, keyword_of}
+use Rattle.sql_lex.specs.Keywords.{capitals, IsKeyword}
+use Rattle.sql_lex.specs.inner.Keywords.{every_keyword, keywords, lookup, keyword_of}
 
 -- what is found among some keywords is a keyword that the word is
 found_among : (word : List ℕ) (some : List Keyword) (k : Keyword) → lookup (map (λ keyword. (capitals keyword, keyword)) some) word ≡ Some k → IsKeyword k word

@@ -1,25 +1,26 @@
--- What lexing answers, step by step, and that it is the one way to cut the text.
-use Rattle.std.proofs.Common.{◌≡◌, ◌<◌, ◌≤◌, ◌+◌, ◌-◌, ℕ, zero, suc, Bool, true, false, List, [], ◌∷◌, ◌++◌, length, drop, get_or, Option, Some, None, Ok, Err, refl, sym, ap, ◌∙◌, subst, arith, length-append, append_assoc, append-nil, add-zero, length-drop}
+-- Laws: what the code cuts a text into is the one way to cut it, and it stops exactly where no token begins.
+use Rattle.std.proofs.Common.{◌≡◌, ◌<◌, ◌≤◌, ◌+◌, ◌-◌, ℕ, zero, suc, Bool, true, false, List, [], ◌∷◌, ◌++◌, length, drop, get_or, Option, Some, None, Result, Ok, Err, IfOk, IfErr, MatchResult, ◌⊎◌, inl, inr, refl, sym, ap, ◌∙◌, subst, arith, length-append, append_assoc, append-nil, add-zero}
 use Rattle.std.proofs.Math.Seq.{drop-append_seam}
 use Rattle.std.proofs.lemmas.Bool.Decides.{nat_tests}
 use Rattle.std.specs.List.{list_all}
 use Rattle.std.specs.Char.{is_ascii_digit}
+use Rattle.geo_base.specs.Results.{Gives}
 use Rattle.sql_lex.specs.declared.symbol.Symbol.{Symbol}
 use Rattle.sql_lex.specs.declared.symbol.Symbol.TheVariants as symbol
 use Rattle.sql_lex.specs.declared.token.LexFault.{LexFault}
-use Rattle.sql_lex.specs.declared.token.LexFault.TheVariants.{BadText}
+use Rattle.sql_lex.specs.declared.token.LexFault.TheVariants.{BadText, NoMemory}
 use Rattle.sql_lex.specs.declared.token.Piece.{Piece}
 use Rattle.sql_lex.specs.declared.token.Token.{Token}
 use Rattle.sql_lex.specs.declared.token.TokenKind.{TokenKind}
 use Rattle.sql_lex.specs.declared.token.TokenKind.TheVariants as kind
 use Rattle.sql_lex.specs.Bytes.{is_blank, begins_word}
-use Rattle.sql_lex.specs.Pieces.{piece, piece_of}
+use Rattle.sql_lex.specs.inner.Pieces.{piece, piece_of}
 use Rattle.sql_lex.specs.Symbols.{symbol_bytes}
-use Rattle.sql_lex.specs.Tokens.{Tokens, token_at, before, first_and, tokens_from, tokens_of}
+use Rattle.sql_lex.specs.inner.Tokens.{Tokens, token_at, before, first_and, tokens_from, tokens_of}
 use Rattle.sql_lex.specs.Grammar.{Spells, EndsAt, AreCutFrom, AreTokensOf, NoTokenBegins, StopsAt}
-use Rattle.sql_lex.proofs.Fronts.{first_passes, rest_passes}
-use Rattle.sql_lex.proofs.Spellings.{IsAtFront, at_front}
-use Rattle.sql_lex.proofs.Taken.{first_of_append, taken}
+use Rattle.sql_lex.specs.laws.Fronts.{first_passes, rest_passes}
+use Rattle.sql_lex.specs.laws.Spellings.{IsAtFront, at_front}
+use Rattle.sql_lex.specs.laws.Taken.{first_of_append, taken}
 
 -- ---- one step
 
@@ -320,58 +321,48 @@ fault_stops text fault e =
     let stops : StopsFrom 0 text fault = subst (IsAnswer 0 text) e (answers (length text) 0 text (omega arith)) in
     (stops.stop, stops.is, record { tokens = stops.tokens; rest = stops.rest; cut = stops.cut; place = omega (arith, stops.place); none = stops.none })
 
+pub stops_there : (text : List ℕ) (at : ℕ) → tokens_of text ≡ Err (BadText at) → StopsAt text at
+stops_there text at e =
+    let stops = fault_stops text (BadText at) e in
+    let same : at ≡ stops.0 = cc in
+    subst (StopsAt text) (sym same) stops.2
+
 pub stop_is_fault : (text : List ℕ) (at : ℕ) → StopsAt text at → tokens_of text ≡ Err (BadText at)
 unfolding tokens_of
 stop_is_fault text at stops =
     cut_answer stops.tokens 0 at text stops.rest stops.cut (omega (arith, stops.place))
     ∙ ap (joined stops.tokens) (at_fault at stops.rest stops.none.some stops.none.no_blank (no_piece stops.rest stops.none))
 
--- ---- lexing, so far
+-- ---- what an answer says of the text, where there may be no memory
 
--- of the text these tokens are cut off, and the rest is left
-pub record IsLexedUpTo (text : List ℕ) (tokens : List Token) (rest : List ℕ) : Type 0 where
-  pub place : ℕ
-  pub left : place + length rest ≡ length text
-  pub answer : joined tokens (tokens_from place 0 rest) ≡ tokens_of text
+-- the text has no tokens from this place on, or there was no memory
+abbrev pub Stops : List ℕ → LexFault → Type 0
+Stops text fault = (fault ≡ NoMemory) ⊎ ((at : ℕ) × (fault ≡ BadText at) × StopsAt text at)
 
-pub lexed_nothing : (text : List ℕ) → IsLexedUpTo text [] text
-unfolding tokens_of
-lexed_nothing text = record { place = 0; left = omega arith; answer = joined-nil (tokens_from 0 0 text) }
+module _ {X : Type 0} (view : X → List Token) (text : List ℕ) where
+  pub answer_cut : (answer : Result X LexFault) → Gives NoMemory view answer (tokens_of text) → IfOk answer (λ found. AreTokensOf (view found) text)
+  answer_cut (Ok found) is = tokens_are_cut text (view found) is
+  answer_cut (Err fault) is = tt
 
-pub lexed_blank : (text : List ℕ) (tokens : List Token) (rest after : List ℕ) → IsLexedUpTo text tokens rest → 0 < length rest → is_blank (get_or rest 0 0) ≡ true → after ≡ drop 1 rest → IsLexedUpTo text tokens after
-lexed_blank text tokens rest after lexed some blank is = record {
-  place = lexed.place + 1;
-  left = omega (arith, lexed.left, ap length is, length-drop 1 rest);
-  answer = ap (λ l. joined tokens (tokens_from (lexed.place + 1) 0 l)) is ∙ sym (ap (joined tokens) (at_blank lexed.place rest some blank)) ∙ lexed.answer;
-}
+  pub answer_only : (answer : Result X LexFault) → Gives NoMemory view answer (tokens_of text) → (tokens : List Token) → AreTokensOf tokens text →
+      MatchResult answer (λ found. view found ≡ tokens) (λ fault. fault ≡ NoMemory)
+  answer_only (Ok found) is tokens cut = no_other_tokens text tokens (view found) cut is
+  answer_only (Err fault) (inl memory) tokens cut = memory
+  answer_only (Err fault) (inr is) tokens cut = absurd (no_fault text tokens fault cut is)
 
--- the length of a piece
-pub piece_within : (rest : List ℕ) (p : Piece) → piece rest ≡ Some p → (0 < p.len) × (p.len ≤ length rest)
-piece_within rest p found =
-    let front = at_front rest p found in
-    let some : 0 < length front.piece = spelled_some p.kind front.piece front.spells in
-    (omega (arith, front.len, some), omega (arith, front.len, ap length front.whole, length-append front.piece front.more))
+  pub answer_stops : (answer : Result X LexFault) → Gives NoMemory view answer (tokens_of text) → IfErr answer (Stops text)
+  answer_stops (Ok found) is = tt
+  answer_stops (Err fault) (inl memory) = inl memory
+  answer_stops (Err fault) (inr is) = inr (fault_stops text fault is)
 
-pub lexed_token : (text : List ℕ) (tokens : List Token) (rest after : List ℕ) (p : Piece) → IsLexedUpTo text tokens rest → is_blank (get_or rest 0 0) ≡ false → piece rest ≡ Some p → after ≡ drop p.len rest
-    → IsLexedUpTo text (tokens ++ token_at (length text - length rest) p ∷ []) after
-lexed_token text tokens rest after p lexed blank found is =
-    let within = piece_within rest p found in
-    let place : length text - length rest ≡ lexed.place = omega (arith, lexed.left) in
-    record {
-      place = lexed.place + p.len;
-      left = omega (arith, lexed.left, ap length is, length-drop p.len rest, within.1);
-      answer =
-          (λ i. joined (tokens ++ token_at (place i) p ∷ []) (tokens_from (lexed.place + p.len) 0 (is i)))
-          ∙ sym (joined-push tokens (token_at lexed.place p) (tokens_from (lexed.place + p.len) 0 (drop p.len rest)))
-          ∙ sym (ap (joined tokens) (at_token lexed.place rest p blank found within.0 within.1))
-          ∙ lexed.answer;
-    }
+  pub answer_there : (answer : Result X LexFault) → Gives NoMemory view answer (tokens_of text) → (at : ℕ) → StopsAt text at →
+      MatchResult answer (λ found. ⊥) (λ fault. (fault ≡ NoMemory) ⊎ (fault ≡ BadText at))
+  answer_there (Ok found) is at stops = let there : tokens_of text ≡ Err (BadText at) = stop_is_fault text at stops in cc
+  answer_there (Err fault) (inl memory) at stops = inl memory
+  answer_there (Err fault) (inr is) at stops = let there : tokens_of text ≡ Err (BadText at) = stop_is_fault text at stops in inr cc
 
-pub lexed_fault : (text : List ℕ) (tokens : List Token) (rest : List ℕ) → IsLexedUpTo text tokens rest → 0 < length rest → is_blank (get_or rest 0 0) ≡ false → piece rest ≡ None → tokens_of text ≡ Err (BadText (length text - length rest))
-lexed_fault text tokens rest lexed some blank none =
-    let place : lexed.place ≡ length text - length rest = omega (arith, lexed.left) in
-    sym lexed.answer ∙ ap (joined tokens) (at_fault lexed.place rest some blank none) ∙ ap (λ n. Err (BadText n)) place
-
-pub lexed_all : (text : List ℕ) (tokens : List Token) (rest : List ℕ) → IsLexedUpTo text tokens rest → length rest ≡ 0 → tokens_of text ≡ Ok tokens
-lexed_all text tokens [] lexed none = sym lexed.answer ∙ ap (joined tokens) (at_end lexed.place) ∙ ap Ok (append-nil tokens)
-lexed_all text tokens (b ∷ rest) lexed none = absurd (omega arith)
+  -- and what is said in the terms of the grammar is what the code's chain answers
+  pub answer_is : (answer : Result X LexFault) → IfOk answer (λ found. AreTokensOf (view found) text) → IfErr answer (Stops text) → Gives NoMemory view answer (tokens_of text)
+  answer_is (Ok found) cut stops = cut_is_tokens text (view found) cut
+  answer_is (Err fault) cut (inl memory) = inl memory
+  answer_is (Err fault) cut (inr stops) = inr (stop_is_fault text stops.0 stops.2 ∙ ap Err (sym stops.1))

@@ -1,4 +1,4 @@
--- How the kinds of byte lie to each other.
+-- Laws: how the kinds of byte lie to each other.
 use Rattle.std.proofs.Common.{◌≡◌, ◌<◌, ℕ, true, false, refl, arith}
 use Rattle.std.proofs.lemmas.Bool.Decides.{nat_tests}
 use Rattle.std.specs.Char.{is_ascii_digit}

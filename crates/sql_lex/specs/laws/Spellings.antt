@@ -1,27 +1,28 @@
--- What a piece takes spells its token and can't be longer, and each such spelling is taken.
+-- Laws: what the code takes at the front spells its token and can't be longer.
 use Rattle.std.proofs.Common.{◌≡◌, ◌<◌, ◌≤◌, ◌+◌, ◌^◌, ◌==◌, ℕ, zero, suc, pos, Bool, true, false, cond, List, [], ◌∷◌, ◌++◌, length, take, drop, get_or, Option, Some, None, option_map, nat_le, nat_lt, refl, sym, ap, ◌∙◌, subst, arith, length-take-le, length-append, take-append-drop, get_or-drop, add-zero, append_assoc, eqb-true, false-eqb, ⊎_elim}
 use Rattle.std.proofs.lemmas.Bool.Decides.{nat_tests}
 use Rattle.std.proofs.lemmas.List.Sums.{prefix_len-le-length}
 use Rattle.std.specs.Char.{is_ascii_digit}
 use Rattle.std.specs.List.{prefix_len}
 use Rattle.std.specs.Str.Parse.{digits_value}
-use Rattle.geo_base.specs.declared.limits.TheConstants.{MAX_TEXT_BYTES}
-use Rattle.geo_base.specs.declared.limits.TheConstants.{MAX_NAME_BYTES}
+use Rattle.geo_base.specs.declared.limits.TheConstants.{MAX_TEXT_BYTES, MAX_NAME_BYTES}
 use Rattle.sql_lex.specs.declared.keyword.Keyword.{Keyword}
 use Rattle.sql_lex.specs.declared.token.Piece.{Piece}
 use Rattle.sql_lex.specs.declared.token.TokenKind.TheVariants as kind
 use Rattle.sql_lex.specs.declared.symbol.Symbol.{Symbol}
 use Rattle.sql_lex.specs.declared.symbol.Symbol.TheVariants as symbol
-use Rattle.sql_lex.specs.Symbols.{symbol_bytes, after_less, after_more, single, symbol_of}
+use Rattle.sql_lex.specs.Symbols.{symbol_bytes}
+use Rattle.sql_lex.specs.inner.Symbols.{after_less, after_more, single, symbol_of}
 use Rattle.sql_lex.specs.Bytes.{begins_word, is_in_word}
-use Rattle.sql_lex.specs.Keywords.{keyword_of}
-use Rattle.sql_lex.specs.Quoted.{content, if_short}
-use Rattle.sql_lex.specs.Pieces.{piece, piece_of, word_piece, word_kind, kind_by, integer_piece, text_piece, symbol_piece}
-use Rattle.sql_lex.specs.Grammar.{IsWord, doubled, Spells, Lengthens, EndsAt}
-use Rattle.sql_lex.proofs.Keywords.{keyword_found, no_keyword_found}
-use Rattle.sql_lex.proofs.Fronts.{passing, stopping, nonempty}
-use Rattle.sql_lex.proofs.WordBytes.{begins-in_word, outside_words, zero-no_word}
-use Rattle.sql_lex.proofs.Quotes.{closes}
+use Rattle.sql_lex.specs.inner.Keywords.{keyword_of}
+use Rattle.sql_lex.specs.inner.Quoted.{content, if_short}
+use Rattle.sql_lex.specs.inner.Pieces.{piece, piece_of, word_piece, word_kind, kind_by, integer_piece, text_piece, symbol_piece}
+use Rattle.sql_lex.specs.Grammar.{IsWord, Spells, Lengthens, EndsAt}
+use Rattle.geo_base.specs.Texts.{doubled}
+use Rattle.sql_lex.specs.laws.Keywords.{keyword_found, no_keyword_found}
+use Rattle.sql_lex.specs.laws.Fronts.{passing, stopping, nonempty}
+use Rattle.sql_lex.specs.laws.Bytes.{begins-in_word, outside_words, zero-no_word}
+use Rattle.sql_lex.specs.laws.Quotes.{closes}
 
 -- the piece is at the front of the bytes
 pub record IsAtFront (bytes : List ℕ) (p : Piece) : Type 0 where

@@ -1,10 +1,13 @@
--- The tokens that a text is cut into are slices of it.
-use Rattle.std.proofs.Common.{◌≡◌, ◌<◌, ◌-◌, ℕ, List, [], ◌∷◌, ◌++◌, length, take, drop, Ok, refl, sym, ap, ◌∙◌, subst, arith, append_assoc, length-append, slice_range}
+-- Laws: the tokens that a text is cut into are slices of it.
+use Rattle.std.proofs.Common.{◌≡◌, ◌<◌, ◌-◌, ℕ, List, [], ◌∷◌, ◌++◌, length, take, drop, Result, Ok, Err, IfOk, refl, sym, ap, ◌∙◌, subst, arith, append_assoc, length-append, slice_range}
 use Rattle.std.proofs.Math.Seq.{take-append_seam, drop-append_seam}
+use Rattle.geo_base.specs.Results.{Gives}
+use Rattle.sql_lex.specs.declared.token.LexFault.{LexFault}
+use Rattle.sql_lex.specs.declared.token.LexFault.TheVariants.{NoMemory}
 use Rattle.sql_lex.specs.declared.token.Token.{Token}
-use Rattle.sql_lex.specs.Tokens.{tokens_of}
-use Rattle.sql_lex.specs.Grammar.{Spells, AreCutFrom, AreSlicesFrom}
-use Rattle.sql_lex.proofs.Cuts.{tokens_are_cut, spelled_some}
+use Rattle.sql_lex.specs.inner.Tokens.{tokens_of}
+use Rattle.sql_lex.specs.Grammar.{Spells, AreCutFrom, AreTokensOf, AreSlicesFrom}
+use Rattle.sql_lex.specs.laws.Cuts.{tokens_are_cut, spelled_some}
 
 slices : (tokens : List Token) (at : ℕ) (front text rest : List ℕ) → length front ≡ at → AreCutFrom at text tokens rest → AreSlicesFrom at (front ++ text) tokens
 slices [] at front text rest len cut = omega (arith, len, length-append front text)
@@ -25,5 +28,13 @@ slices (t ∷ tokens) at front text rest len cut =
       subst (λ l. AreSlicesFrom t.to l tokens) after (slices tokens t.to (left ++ first.piece) more rest (omega (arith, from, first.to, length-append left first.piece)) cut.2),
     )
 
+pub cut_is_slices : (text : List ℕ) (tokens : List Token) → AreTokensOf tokens text → AreSlicesFrom 0 text tokens
+cut_is_slices text tokens cut = slices tokens 0 [] text [] refl cut
+
 pub tokens_are_slices : (text : List ℕ) (tokens : List Token) → tokens_of text ≡ Ok tokens → AreSlicesFrom 0 text tokens
-tokens_are_slices text tokens e = slices tokens 0 [] text [] refl (tokens_are_cut text tokens e)
+tokens_are_slices text tokens e = cut_is_slices text tokens (tokens_are_cut text tokens e)
+
+pub answer_slices : {X : Type 0} (view : X → List Token) (text : List ℕ) (answer : Result X LexFault) → Gives NoMemory view answer (tokens_of text) →
+    IfOk answer (λ found. AreSlicesFrom 0 text (view found))
+answer_slices view text (Ok found) is = tokens_are_slices text (view found) is
+answer_slices view text (Err fault) is = tt

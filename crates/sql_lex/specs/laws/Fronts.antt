@@ -1,4 +1,4 @@
--- The longest front of a list whose elements pass a test.
+-- Laws: the longest front of a list whose elements pass a test.
 use Rattle.std.proofs.Common.{◌≡◌, ◌<◌, ◌+◌, ◌&&◌, ℕ, suc, Bool, true, false, cond, List, [], ◌∷◌, ◌++◌, length, take, drop, get_or, refl, subst, arith}
 use Rattle.std.specs.List.{list_all, prefix_len}
 

@@ -1,12 +1,11 @@
--- Each spelling of a token that nothing lengthens is taken as that token.
+-- Laws: each spelling of a token that nothing lengthens is taken as that token.
 use Rattle.std.proofs.Common.{◌≡◌, ◌<◌, ◌≤◌, ◌+◌, ◌^◌, ◌==◌, inl, inr, ℕ, suc, pos, true, false, cond, List, [], ◌∷◌, ◌++◌, length, take, get_or, Option, Some, None, option_map, nat_le, nat_lt, refl, sym, ap, ◌∙◌, subst, arith, length-append, append_assoc, ne_eqb}
 use Rattle.std.proofs.Math.Seq.{take-append_seam}
 use Rattle.std.proofs.lemmas.Bool.Decides.{nat_tests}
 use Rattle.std.specs.Char.{is_ascii_digit}
 use Rattle.std.specs.List.{prefix_len}
 use Rattle.std.specs.Str.Parse.{digits_value}
-use Rattle.geo_base.specs.declared.limits.TheConstants.{MAX_TEXT_BYTES}
-use Rattle.geo_base.specs.declared.limits.TheConstants.{MAX_NAME_BYTES}
+use Rattle.geo_base.specs.declared.limits.TheConstants.{MAX_TEXT_BYTES, MAX_NAME_BYTES}
 use Rattle.sql_lex.specs.declared.keyword.Keyword.{Keyword}
 use Rattle.sql_lex.specs.declared.symbol.Symbol.{Symbol}
 use Rattle.sql_lex.specs.declared.symbol.Symbol.TheVariants as symbol
@@ -14,15 +13,17 @@ use Rattle.sql_lex.specs.declared.token.Piece.{Piece}
 use Rattle.sql_lex.specs.declared.token.TokenKind.{TokenKind}
 use Rattle.sql_lex.specs.declared.token.TokenKind.TheVariants as kind
 use Rattle.sql_lex.specs.Bytes.{begins_word, is_in_word}
-use Rattle.sql_lex.specs.Keywords.{IsKeyword, keyword_of}
-use Rattle.sql_lex.specs.Quoted.{if_short, short_content}
+use Rattle.sql_lex.specs.Keywords.{IsKeyword}
+use Rattle.sql_lex.specs.inner.Keywords.{keyword_of}
+use Rattle.sql_lex.specs.inner.Quoted.{if_short, short_content}
 use Rattle.sql_lex.specs.Symbols.{symbol_bytes}
-use Rattle.sql_lex.specs.Pieces.{piece, piece_of, word_piece, word_kind, kind_by, integer_piece, value_of, text_piece, symbol_piece}
-use Rattle.sql_lex.specs.Grammar.{IsWord, IsNumeral, doubled, Spells, Lengthens, EndsAt}
-use Rattle.sql_lex.proofs.Fronts.{first_passes, exactly}
-use Rattle.sql_lex.proofs.WordBytes.{digit-begins_no_word, outside-begins_no_word, outside-no_digit}
-use Rattle.sql_lex.proofs.Quotes.{spelled}
-use Rattle.sql_lex.proofs.Keywords.{keyword_found, keyword_is}
+use Rattle.sql_lex.specs.inner.Pieces.{piece, piece_of, word_piece, word_kind, kind_by, integer_piece, value_of, text_piece, symbol_piece}
+use Rattle.sql_lex.specs.Grammar.{IsWord, IsNumeral, Spells, Lengthens, EndsAt}
+use Rattle.geo_base.specs.Texts.{doubled}
+use Rattle.sql_lex.specs.laws.Fronts.{first_passes, exactly}
+use Rattle.sql_lex.specs.laws.Bytes.{digit-begins_no_word, outside-begins_no_word, outside-no_digit}
+use Rattle.sql_lex.specs.laws.Quotes.{spelled}
+use Rattle.sql_lex.specs.laws.Keywords.{keyword_found, keyword_is}
 
 pub first_of_append : (xs ys : List ℕ) → 0 < length xs → get_or (xs ++ ys) 0 0 ≡ get_or xs 0 0
 first_of_append [] ys h = absurd (omega arith)
