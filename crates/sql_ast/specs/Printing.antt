@@ -1,10 +1,8 @@
 -- The canonical text of a statement: keywords in capitals and one space between tokens, except none before `,` `.` `)`
 -- and none after `(` `.`, and none between a name or an aggregate's keyword and its `(`. A missing part prints nothing.
-use Rattle.std.specs.Prelude.{ℕ, ◌==◌, Bool, true, false, if◌then◌else◌, List, [], ◌∷◌, ◌++◌, codes, Option, Some, None}
-use Rattle.std.specs.List.{flat_map}
-use Rattle.std.specs.Fmt.{decimal, signed_decimal}
-use Rattle.geo_base.specs.declared.cell.Cell.{Cell}
-use Rattle.geo_base.specs.declared.cell.Cell.TheVariants as cell
+use Rattle.std.specs.Prelude.{ℕ, Bool, true, false, if◌then◌else◌, List, [], ◌∷◌, ◌++◌, codes, Option, Some, None}
+use Rattle.std.specs.Fmt.{decimal}
+use Rattle.geo_base.specs.Texts.{cell_text, commas}
 use Rattle.sql_ast.specs.declared.ast.Ast.{Ast}
 use Rattle.sql_ast.specs.declared.ast.Ast.TheOpen.{Ast-F}
 use Rattle.sql_ast.specs.declared.ast.Ast.TheFolds.{fold-Ast}
@@ -35,33 +33,12 @@ abbrev pub if_some : {T : Type 0} → (T → List ℕ) → Option T → List ℕ
 if_some text None = []
 if_some text (Some part) = text part
 
--- the texts of the items, with a comma and a space between
-abbrev pub commas : {T : Type 0} → (T → List ℕ) → List T → List ℕ
-commas text [] = []
-commas text (first ∷ others) = text first ++ flat_map (λ other. codes ", " ++ text other) others
-
 -- words and the list behind them, and nothing where the list is empty
 abbrev pub list_clause : {T : Type 0} → List ℕ → (T → List ℕ) → List T → List ℕ
 list_clause words text [] = []
 list_clause words text (first ∷ others) = words ++ commas text (first ∷ others)
 
 -- ---- expressions
-
--- the text with each quote in it doubled
-abbrev pub doubled : List ℕ → List ℕ
-doubled text = flat_map (λ b. if b == 39 then 39 ∷ 39 ∷ [] else b ∷ []) text
-
--- a text in quotes, with each quote in it doubled
-abbrev pub quoted_text : List ℕ → List ℕ
-quoted_text text = codes "'" ++ doubled text ++ codes "'"
-
--- A literal: a text stands in quotes, and a minus stands at its digits.
-abbrev pub literal_text : Cell → List ℕ
-literal_text cell.Null = codes "NULL"
-literal_text (cell.Int number) = signed_decimal number
-literal_text (cell.Text text) = quoted_text text
-literal_text (cell.Truth true) = codes "TRUE"
-literal_text (cell.Truth false) = codes "FALSE"
 
 -- a column, behind the name of its table where that is written
 abbrev pub column_text : ColRef → List ℕ
@@ -88,7 +65,7 @@ null_test_text true = codes " IS NOT NULL"
 
 -- One level of an expression, with the texts of its operands in their places. Each operator has one pair of parentheses.
 abbrev pub level_text : Ast-F (List ℕ) → List ℕ
-level_text (Ast-F.Lit literal) = literal_text literal
+level_text (Ast-F.Lit literal) = cell_text literal
 level_text (Ast-F.Column column) = column_text column
 level_text (Ast-F.Neg a) = codes "-(" ++ a ++ codes ")"
 level_text (Ast-F.Not a) = codes "(NOT " ++ a ++ codes ")"

@@ -44,7 +44,7 @@ pub enum Ast {
 }
 
 /// A copy of a name that may be missing.
-pub fn copy_name(alloc: Global, name: &Option<Txt>) -> Result<Option<Txt>, NoMemory>
+pub(crate) fn copy_name(alloc: Global, name: &Option<Txt>) -> Result<Option<Txt>, NoMemory>
     ensures { IfOk result (λ c. c ≡ name.now) }
 {
     match name {
@@ -54,7 +54,7 @@ pub fn copy_name(alloc: Global, name: &Option<Txt>) -> Result<Option<Txt>, NoMem
 }
 
 /// A copy of an expression that may be missing.
-pub fn copy_filter(alloc: Global, filter: &Option<Ast>) -> Result<Option<Ast>, NoMemory>
+pub(crate) fn copy_filter(alloc: Global, filter: &Option<Ast>) -> Result<Option<Ast>, NoMemory>
     ensures { IfOk result (λ c. c ≡ filter.now) }
 {
     match filter {

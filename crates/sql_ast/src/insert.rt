@@ -1,6 +1,6 @@
 //! INSERT.
 
-use crate::many::{AstList, AstRowList, TxtList};
+use crate::lists::{AstList, AstRowList, TxtList};
 use geo_base::{Duplicate, NoMemory, Txt};
 use std::alloc::Global;
 

@@ -9,7 +9,7 @@
 mod ast;
 mod delete;
 mod insert;
-mod many;
+mod lists;
 mod printing;
 mod select;
 mod statement;
@@ -18,9 +18,7 @@ mod update;
 pub use ast::{Ast, AstOp, ColRef};
 pub use delete::DeleteStmt;
 pub use insert::{AstRow, InsertStmt};
-pub use many::{
-    AstItemList, AstList, AstRowList, AstSetList, ColRefList, Many, OrderRefList, TxtList,
-};
+pub use lists::{AstItemList, AstList, AstRowList, AstSetList, ColRefList, OrderRefList, TxtList};
 pub use printing::print;
 pub use select::{AstItem, AstValue, Items, JoinRef, OrderRef, SelectStmt, TableRef};
 pub use statement::Statement;

@@ -2,8 +2,8 @@
 ghost use Rattle.std.specs.Prelude.{◌≡◌, ◌++◌, OnOk, IfOk, string_bytes};
 ghost use Rattle.sql_ast.specs.Printing as texts;
 
+mod clauses;
 mod columns;
-mod commas;
 mod expressions;
 mod queries;
 mod writes;

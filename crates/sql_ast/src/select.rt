@@ -2,7 +2,7 @@
 ghost use Rattle.std.specs.Prelude.{◌≡◌, IfOk};
 
 use crate::ast::{Ast, ColRef, copy_filter, copy_name};
-use crate::many::{AstItemList, ColRefList, OrderRefList};
+use crate::lists::{AstItemList, ColRefList, OrderRefList};
 use geo_base::{Duplicate, NoMemory, Txt};
 use std::alloc::Global;
 

@@ -1,7 +1,7 @@
 //! UPDATE.
 
 use crate::ast::{Ast, copy_filter};
-use crate::many::AstSetList;
+use crate::lists::AstSetList;
 use geo_base::{Duplicate, NoMemory, Txt};
 use std::alloc::Global;
 

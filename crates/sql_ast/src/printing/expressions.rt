@@ -2,46 +2,9 @@
 ghost use Rattle.std.specs.Prelude.{◌≡◌, ◌++◌, OnOk, string_bytes};
 ghost use Rattle.sql_ast.specs.Printing as texts;
 
-use super::commas::Printed;
 use crate::ast::{Ast, AstOp};
-use geo_base::{Cell, NoMemory};
+use geo_base::{NoMemory, Printed};
 use std::fmt::Write;
-
-// A text with each quote in it doubled.
-fn print_doubled(out: &mut String, text: &str) -> Result<(), NoMemory>
-    ensures { OnOk result (string_bytes out.new ≡ string_bytes out.old ++ texts.doubled text.now) }
-{
-    let mut rest = text;
-    while let Some((before, after)) = rest.split_once('\'') {
-        out.push_str(before)?;
-        out.push_str("''")?;
-        rest = after;
-    }
-    out.push_str(rest)?;
-    Ok(())
-}
-
-fn print_quoted(out: &mut String, text: &str) -> Result<(), NoMemory>
-    ensures { OnOk result (string_bytes out.new ≡ string_bytes out.old ++ texts.quoted_text text.now) }
-{
-    write!(out, "'")?;
-    print_doubled(out, text)?;
-    write!(out, "'")?;
-    Ok(())
-}
-
-fn print_literal(out: &mut String, literal: &Cell) -> Result<(), NoMemory>
-    ensures { OnOk result (string_bytes out.new ≡ string_bytes out.old ++ texts.literal_text literal.now) }
-{
-    match literal {
-        Cell::Null => write!(out, "NULL")?,
-        Cell::Int(number) => write!(out, "{number}")?,
-        Cell::Text(text) => print_quoted(out, text.text())?,
-        Cell::Truth(true) => write!(out, "TRUE")?,
-        Cell::Truth(false) => write!(out, "FALSE")?,
-    }
-    Ok(())
-}
 
 fn operator_word(op: AstOp) -> &'static str
     ensures { result.now ≡ texts.operator_text op }
@@ -70,11 +33,11 @@ fn null_test_words(is_not: bool) -> &'static str
 
 /// An expression, with parentheses at each operator.
 #[tactic(auto, unfolding(crate::specs::Printing::expression_text))]
-pub fn print_expression(out: &mut String, expression: &Ast) -> Result<(), NoMemory>
+pub(crate) fn print_expression(out: &mut String, expression: &Ast) -> Result<(), NoMemory>
     ensures { OnOk result (string_bytes out.new ≡ string_bytes out.old ++ texts.expression_text expression.now) }
 {
     match expression {
-        Ast::Lit(literal) => print_literal(out, literal)?,
+        Ast::Lit(literal) => literal.print_to(out)?,
         Ast::Column(column) => column.print_to(out)?,
         Ast::Neg(a) => {
             out.push_str("-(")?;
@@ -114,7 +77,7 @@ impl Printed for Ast {
 }
 
 /// The clause of WHERE, where there is one.
-pub fn print_filter(out: &mut String, filter: &Option<Ast>) -> Result<(), NoMemory>
+pub(crate) fn print_filter(out: &mut String, filter: &Option<Ast>) -> Result<(), NoMemory>
     ensures { OnOk result (string_bytes out.new ≡ string_bytes out.old ++ texts.filter_text filter.now) }
 {
     if let Some(condition) = filter {

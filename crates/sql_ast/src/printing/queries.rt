@@ -2,12 +2,12 @@
 ghost use Rattle.std.specs.Prelude.{◌≡◌, ◌++◌, OnOk, string_bytes};
 ghost use Rattle.sql_ast.specs.Printing as texts;
 
-use super::columns::print_alias;
-use super::commas::{Printed, print_commas, print_list_clause};
+use super::clauses::print_list_clause;
+use super::columns::{print_alias, print_name};
 use super::expressions::{print_expression, print_filter};
 use crate::ast::Ast;
 use crate::select::{AstItem, AstValue, Items, JoinRef, OrderRef, SelectStmt, TableRef};
-use geo_base::NoMemory;
+use geo_base::{NoMemory, Printed, print_commas};
 use std::fmt::Write;
 
 // An aggregate by its keyword.
@@ -69,7 +69,7 @@ fn print_items(out: &mut String, items: &Items) -> Result<(), NoMemory>
 fn print_table(out: &mut String, table: &TableRef) -> Result<(), NoMemory>
     ensures { OnOk result (string_bytes out.new ≡ string_bytes out.old ++ texts.table_text table.now) }
 {
-    table.name.print_to(out)?;
+    print_name(out, &table.name)?;
     print_alias(out, &table.alias)
 }
 
@@ -96,7 +96,7 @@ fn print_limit(out: &mut String, limit: Option<u64>) -> Result<(), NoMemory>
 
 /// A query.
 #[tactic(auto, unfolding(crate::specs::Printing::select_text))]
-pub fn print_select(out: &mut String, select: &SelectStmt) -> Result<(), NoMemory>
+pub(crate) fn print_select(out: &mut String, select: &SelectStmt) -> Result<(), NoMemory>
     ensures { OnOk result (string_bytes out.new ≡ string_bytes out.old ++ texts.select_text select.now) }
 {
     out.push_str("SELECT ")?;

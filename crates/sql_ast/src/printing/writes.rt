@@ -2,12 +2,12 @@
 ghost use Rattle.std.specs.Prelude.{◌≡◌, ◌++◌, OnOk, string_bytes};
 ghost use Rattle.sql_ast.specs.Printing as texts;
 
-use super::commas::{Printed, print_commas};
+use super::columns::{print_name, print_names};
 use super::expressions::{print_expression, print_filter};
 use crate::delete::DeleteStmt;
 use crate::insert::{AstRow, InsertStmt};
 use crate::update::{AstSet, UpdateStmt};
-use geo_base::{NoMemory, Txt};
+use geo_base::{NoMemory, Printed, Txt, print_commas};
 
 // The list of columns behind the table's name, and nothing where it is empty.
 fn print_columns(out: &mut String, columns: &[Txt]) -> Result<(), NoMemory>
@@ -17,7 +17,7 @@ fn print_columns(out: &mut String, columns: &[Txt]) -> Result<(), NoMemory>
         return Ok(());
     }
     out.push_str("(")?;
-    print_commas(out, columns)?;
+    print_names(out, columns)?;
     out.push_str(")")?;
     Ok(())
 }
@@ -37,18 +37,18 @@ impl Printed for AstSet {
     ghost text = { texts.set_text };
 
     fn print_to(&self, out: &mut String) -> Result<(), NoMemory> {
-        self.column.print_to(out)?;
+        print_name(out, &self.column)?;
         out.push_str(" = ")?;
         print_expression(out, &self.value)
     }
 }
 
 /// INSERT.
-pub fn print_insert(out: &mut String, insert: &InsertStmt) -> Result<(), NoMemory>
+pub(crate) fn print_insert(out: &mut String, insert: &InsertStmt) -> Result<(), NoMemory>
     ensures { OnOk result (string_bytes out.new ≡ string_bytes out.old ++ texts.insert_text insert.now) }
 {
     out.push_str("INSERT INTO ")?;
-    insert.table.print_to(out)?;
+    print_name(out, &insert.table)?;
     print_columns(out, insert.columns.items())?;
     out.push_str(" VALUES ")?;
     print_commas(out, insert.rows.items())?;
@@ -57,22 +57,22 @@ pub fn print_insert(out: &mut String, insert: &InsertStmt) -> Result<(), NoMemor
 
 /// UPDATE.
 #[tactic(auto, unfolding(crate::specs::Printing::update_text))]
-pub fn print_update(out: &mut String, update: &UpdateStmt) -> Result<(), NoMemory>
+pub(crate) fn print_update(out: &mut String, update: &UpdateStmt) -> Result<(), NoMemory>
     ensures { OnOk result (string_bytes out.new ≡ string_bytes out.old ++ texts.update_text update.now) }
 {
     out.push_str("UPDATE ")?;
-    update.table.print_to(out)?;
+    print_name(out, &update.table)?;
     out.push_str(" SET ")?;
     print_commas(out, update.sets.items())?;
     print_filter(out, &update.filter)
 }
 
 /// DELETE.
-pub fn print_delete(out: &mut String, delete: &DeleteStmt) -> Result<(), NoMemory>
+pub(crate) fn print_delete(out: &mut String, delete: &DeleteStmt) -> Result<(), NoMemory>
     ensures { OnOk result (string_bytes out.new ≡ string_bytes out.old ++ texts.delete_text delete.now) }
 {
     out.push_str("DELETE FROM ")?;
-    delete.table.print_to(out)?;
+    print_name(out, &delete.table)?;
     print_filter(out, &delete.filter)?;
     Ok(())
 }
