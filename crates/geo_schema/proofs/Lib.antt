@@ -1,0 +1,5 @@
+pub mod KeptRules
+pub mod KeyOfRow
+pub mod Names
+pub mod OneFault
+pub mod Repeats

@@ -1,7 +1,7 @@
-pub mod Fitting
 pub mod Ranges
 pub mod Repeats
 pub mod Rows
 pub mod Schemas
 pub mod Tables
+pub mod inner
 pub mod laws

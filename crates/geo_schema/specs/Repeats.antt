@@ -1,18 +1,17 @@
 -- What stands twice in a list.
-use Rattle.std.specs.Prelude.{Bool, if◌then◌else◌, Option, Some, None, is_none, List, [], ◌∷◌, ◌++◌}
-use Rattle.std.specs.List.{list_any}
+use Rattle.std.specs.Prelude.{◌≡◌, ℕ, ◌<◌, Bool, true, false, Some, List, length, take, slice_index_or}
+use Rattle.std.specs.List.{slice_get}
 
 module _ {A : Type 0} (same : A → A → Bool) where
-  -- the first of these items that one before it is like, where others stand before them all
-  abbrev pub first_repeat_after : List A → List A → Option A
-  first_repeat_after before [] = None
-  first_repeat_after before (item ∷ items) =
-      if list_any (λ earlier. same earlier item) before then Some item else first_repeat_after (before ++ item ∷ []) items
+  -- no item is like an earlier one
+  abbrev pub AreApart : List A → Type 0
+  AreApart items = (i j : ℕ) (d : A) → i < j → j < length items → same (slice_index_or items i d) (slice_index_or items j d) ≡ false
 
   -- the first item that an earlier one is like
-  abbrev pub first_repeat : List A → Option A
-  first_repeat = first_repeat_after []
-
-  -- no two items are alike
-  abbrev pub is_distinct : List A → Bool
-  is_distinct items = is_none (first_repeat items)
+  pub record IsFirstRepeat (items : List A) (item : A) : Type 0 where
+    pub place : ℕ
+    pub here : slice_get items place ≡ Some item
+    pub earlier : ℕ
+    pub before : earlier < place
+    pub alike : same (slice_index_or items earlier item) item ≡ true
+    pub first : AreApart (take place items)

@@ -1,6 +1,6 @@
--- Which tables keep the rules of tables.
-use Rattle.std.specs.Prelude.{ℕ, Bool, true, not, ◌&&◌, nat_le, nat_lt, nat_eq, List, length}
-use Rattle.std.specs.List.{list_all}
+-- The rules of tables.
+use Rattle.std.specs.Prelude.{ℕ, ◌≤◌, ◌<◌, ⊤, Bool, nat_eq, List, length}
+use Rattle.std.specs.List.{All}
 use Rattle.geo_base.specs.declared.limits.TheConstants.{MAX_TEXT_BYTES, MAX_KEY_CELLS, MAX_COLUMNS, MAX_INDEXES, MAX_INDEX_COLUMNS, MAX_NAME_BYTES}
 use Rattle.geo_base.specs.Order.{text_eq}
 use Rattle.geo_schema.specs.declared.column.ColumnDef.{ColumnDef}
@@ -8,20 +8,7 @@ use Rattle.geo_schema.specs.declared.column.Kind.{Kind}
 use Rattle.geo_schema.specs.declared.column.Kind.TheVariants as kind
 use Rattle.geo_schema.specs.declared.index.IndexDef.{IndexDef}
 use Rattle.geo_schema.specs.declared.table.TableDef.{TableDef}
-use Rattle.geo_schema.specs.Repeats.{is_distinct}
-
--- there is at least one, and there are at most so many
-abbrev pub is_count : {A : Type 0} → ℕ → List A → Bool
-is_count most items = nat_le 1 (length items) && nat_le (length items) most
-
--- a name has 1 to 32 bytes
-abbrev pub is_name : List ℕ → Bool
-is_name = is_count MAX_NAME_BYTES
-
--- a text column takes at most 1,024 bytes
-abbrev pub is_kind : Kind → Bool
-is_kind (kind.Text max) = nat_le max MAX_TEXT_BYTES
-is_kind _ = true
+use Rattle.geo_schema.specs.Repeats.{AreApart}
 
 -- two columns, two indexes or two tables have one name
 abbrev pub same_column : ColumnDef → ColumnDef → Bool
@@ -33,36 +20,43 @@ same_index a b = text_eq a.name b.name
 abbrev pub same_table : TableDef → TableDef → Bool
 same_table a b = text_eq a.name b.name
 
--- a column has a name and a kind within the limits
-unfoldable pub is_column : ColumnDef → Bool
-is_column column = is_name column.name && is_kind column.kind
+-- a name has 1 to 32 bytes
+pub record IsName (bytes : List ℕ) : Type 0 where
+  pub some : 1 ≤ length bytes
+  pub few : length bytes ≤ MAX_NAME_BYTES
 
--- there are 1 to 32 columns, each one within the limits, and no two have one name
-unfoldable pub are_columns : List ColumnDef → Bool
-are_columns columns = is_count MAX_COLUMNS columns && (list_all is_column columns && is_distinct same_column columns)
+-- a text column takes at most 1,024 bytes
+abbrev pub IsKind : Kind → Type 0
+IsKind kind.Int = ⊤
+IsKind (kind.Text max) = max ≤ MAX_TEXT_BYTES
+IsKind kind.Truth = ⊤
+
+-- a column has a name, and a kind within the limit
+pub record IsColumn (column : ColumnDef) : Type 0 where
+  pub name : IsName column.name
+  pub takes : IsKind column.kind
 
 -- there are 1 to so many places, each is that of one of the columns, and none stands there twice
-unfoldable pub are_places : ℕ → ℕ → List ℕ → Bool
-are_places most columns places =
-    is_count most places && (list_all (λ place. nat_lt place columns) places && is_distinct nat_eq places)
+pub record ArePlaces (most columns : ℕ) (places : List ℕ) : Type 0 where
+  pub some : 1 ≤ length places
+  pub few : length places ≤ most
+  pub within : All (λ place. place < columns) places
+  pub apart : AreApart nat_eq places
 
--- an index has a name within the limits, and 1 to 4 places of columns
-unfoldable pub is_index : ℕ → IndexDef → Bool
-is_index columns index = is_name index.name && are_places MAX_INDEX_COLUMNS columns index.columns
+-- an index has a name, and 1 to 4 places of columns
+pub record IsIndex (columns : ℕ) (index : IndexDef) : Type 0 where
+  pub name : IsName index.name
+  pub places : ArePlaces MAX_INDEX_COLUMNS columns index.columns
 
--- there are at most 4 indexes, each one within the limits, and no two have one name
-unfoldable pub are_indexes : ℕ → List IndexDef → Bool
-are_indexes columns indexes =
-    nat_le (length indexes) MAX_INDEXES && (list_all (is_index columns) indexes && is_distinct same_index indexes)
-
--- the name, the columns, the key of 1 to 4 places of columns, and the indexes
-unfoldable pub is_table : TableDef → Bool
-is_table table =
-    is_name table.name
-    && (are_columns table.columns
-    && (are_places MAX_KEY_CELLS (length table.columns) table.key
-    && are_indexes (length table.columns) table.indexes))
-
--- the table breaks a rule
-abbrev pub is_bad_table : TableDef → Bool
-is_bad_table table = not (is_table table)
+-- a table has a name; 1 to 32 columns, of which no two have one name; a key of 1 to 4 places of columns;
+-- and at most 4 indexes, of which no two have one name
+pub record IsTable (table : TableDef) : Type 0 where
+  pub name : IsName table.name
+  pub some : 1 ≤ length table.columns
+  pub few : length table.columns ≤ MAX_COLUMNS
+  pub columns : All IsColumn table.columns
+  pub apart : AreApart same_column table.columns
+  pub key : ArePlaces MAX_KEY_CELLS (length table.columns) table.key
+  pub few_indexes : length table.indexes ≤ MAX_INDEXES
+  pub indexes : All (IsIndex (length table.columns)) table.indexes
+  pub indexes_apart : AreApart same_index table.indexes

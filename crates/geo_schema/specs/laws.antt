@@ -4,4 +4,5 @@ pub mod Fits
 pub mod Keys
 pub mod Places
 pub mod Rules
+pub mod Schemas
 pub mod Steps

@@ -2,7 +2,7 @@
 ghost use Rattle.std.specs.Prelude.{◌≡◌, Bool, nat_eq};
 ghost use Rattle.std.specs.List.{list_any};
 ghost use Rattle.std.specs.Option.{option_copied};
-ghost use Rattle.geo_schema.specs.Repeats.{first_repeat};
+ghost use Rattle.geo_schema.specs.inner.Repeats.{first_repeat};
 
 /// Things of which a list may not have two that are alike: definitions of one name, or one place twice.
 pub(crate) trait Alike {

@@ -1,19 +1,79 @@
 //! Laws of rows and schemas, each the contract of a function that does nothing.
-ghost use Rattle.std.specs.Prelude.{◌≡◌, ◌<◌, ◌↔◌, ℕ, None, List, length};
+ghost use Rattle.std.specs.Prelude.{◌≡◌, ◌<◌, ◌≤◌, ◌↔◌, ◌⊎◌, ℕ, Some, None, List, length, slice_index_or};
+ghost use Rattle.std.specs.List.{All};
 ghost use Rattle.geo_base.specs.declared.cell.Cell.{Cell};
+ghost use Rattle.geo_base.specs.declared.limits.TheConstants.{MAX_TABLES};
+ghost use Rattle.geo_schema.specs.declared.column.ColumnDef.{ColumnDef};
+ghost use Rattle.geo_schema.specs.declared.fault.CellFault.{CellFault};
+ghost use Rattle.geo_schema.specs.declared.fault.SchemaFault.{SchemaFault};
+ghost use Rattle.geo_schema.specs.declared.fault.SchemaFault.TheVariants as fault;
+ghost use Rattle.geo_schema.specs.declared.index.IndexDef.{IndexDef};
 ghost use Rattle.geo_schema.specs.declared.table.TableDef.{TableDef};
-ghost use Rattle.geo_schema.specs.Fitting.{IsRow};
-ghost use Rattle.geo_schema.specs.Rows.{row_fault};
-ghost use Rattle.geo_schema.specs.Schemas.{IsSchema, table_at};
+ghost use Rattle.geo_schema.specs.Rows.{IsRow, IsRowFault};
+ghost use Rattle.geo_schema.specs.Schemas.{IsSchema, IsSchemaFault, table_at};
+ghost use Rattle.geo_schema.specs.Tables.{ArePlaces, IsTable};
+ghost use Rattle.geo_schema.specs.inner.Rows.{row_fault};
+ghost use Rattle.geo_schema.specs.inner.Schemas.{schema_fault};
 
-/// Cells have no fault exactly where they are a row of the table: one cell for each column, of its type, not
-/// NULL where none may be, and no longer than the column takes.
+/// The fault of cells that the code finds is none exactly where they are a row of the table, and else the
+/// one that they have.
 pub fn faultless_cells_are_rows()
-    ensures { (table : TableDef) (cells : List Cell) → (row_fault table cells ≡ None) ↔ IsRow table cells }
+    ensures none { (table : TableDef) (cells : List Cell) → (row_fault table cells ≡ None) ↔ IsRow table cells }
+    ensures some { (table : TableDef) (cells : List Cell) (why : CellFault) → (row_fault table cells ≡ Some why) ↔ IsRowFault table cells why }
+{}
+
+/// Cells are a row of a table or have one fault, and never both.
+pub fn cells_are_a_row_or_have_one_fault()
+    ensures either { (table : TableDef) (cells : List Cell) → IsRow table cells ⊎ ((why : CellFault) × IsRowFault table cells why) }
+    ensures row { (table : TableDef) (cells : List Cell) (why : CellFault) → IsRow table cells → ¬ IsRowFault table cells why }
+    ensures one { (table : TableDef) (cells : List Cell) (a b : CellFault) → IsRowFault table cells a → IsRowFault table cells b → a ≡ b }
+{}
+
+/// The fault of tables that the code finds is none exactly where they are a schema, and else the one that
+/// they have.
+pub fn faultless_tables_are_schemas()
+    ensures none { (tables : List TableDef) → (schema_fault tables ≡ None) ↔ IsSchema tables }
+    ensures some { (tables : List TableDef) (why : SchemaFault) → (schema_fault tables ≡ Some why) ↔ IsSchemaFault tables why }
+{}
+
+/// Tables are a schema or have one fault, and never both.
+pub fn tables_are_a_schema_or_have_one_fault()
+    ensures either { (tables : List TableDef) → IsSchema tables ⊎ ((why : SchemaFault) × IsSchemaFault tables why) }
+    ensures schema { (tables : List TableDef) (why : SchemaFault) → IsSchema tables → ¬ IsSchemaFault tables why }
+    ensures one { (tables : List TableDef) (a b : SchemaFault) → IsSchemaFault tables a → IsSchemaFault tables b → a ≡ b }
 {}
 
 /// No two tables of a schema have one name.
 pub fn names_are_of_one_table()
     ensures { (tables : List TableDef) (a b : ℕ) → IsSchema tables → a < length tables → b < length tables →
         (table_at tables a).name ≡ (table_at tables b).name → a ≡ b }
+{}
+
+/// In a table by the rules no two columns and no two indexes have one name, and no place stands twice in
+/// the key or in an index.
+pub fn nothing_stands_twice()
+    ensures columns { (table : TableDef) (a b : ℕ) (d : ColumnDef) → IsTable table → a < length table.columns → b < length table.columns →
+        (slice_index_or table.columns a d).name ≡ (slice_index_or table.columns b d).name → a ≡ b }
+    ensures indexes { (table : TableDef) (a b : ℕ) (d : IndexDef) → IsTable table → a < length table.indexes → b < length table.indexes →
+        (slice_index_or table.indexes a d).name ≡ (slice_index_or table.indexes b d).name → a ≡ b }
+    ensures places { (most columns : ℕ) (places : List ℕ) (a b d : ℕ) → ArePlaces most columns places → a < length places → b < length places →
+        slice_index_or places a d ≡ slice_index_or places b d → a ≡ b }
+{}
+
+/// What stands twice is a fault. Where two columns or two indexes of a table have one name, or a place
+/// stands twice in its key or in an index, that table or one before it is a bad one; and where two
+/// tables have one name and none is bad, a name stands twice.
+pub fn what_stands_twice_is_a_fault()
+    ensures columns { (table : TableDef) (a b : ℕ) (d : ColumnDef) → a < b → b < length table.columns →
+        (slice_index_or table.columns a d).name ≡ (slice_index_or table.columns b d).name → ¬ IsTable table }
+    ensures indexes { (table : TableDef) (a b : ℕ) (d : IndexDef) → a < b → b < length table.indexes →
+        (slice_index_or table.indexes a d).name ≡ (slice_index_or table.indexes b d).name → ¬ IsTable table }
+    ensures key { (table : TableDef) (a b d : ℕ) → a < b → b < length table.key →
+        slice_index_or table.key a d ≡ slice_index_or table.key b d → ¬ IsTable table }
+    ensures index_places { (table : TableDef) (k a b d : ℕ) (i : IndexDef) → let index = slice_index_or table.indexes k i in
+        k < length table.indexes → a < b → b < length index.columns → slice_index_or index.columns a d ≡ slice_index_or index.columns b d → ¬ IsTable table }
+    ensures bad_table { (tables : List TableDef) (number : ℕ) → length tables ≤ MAX_TABLES → number < length tables → ¬ IsTable (table_at tables number) →
+        (first : ℕ) × (first ≤ number) × IsSchemaFault tables (fault.BadTable first) }
+    ensures tables { (tables : List TableDef) (a b : ℕ) → length tables ≤ MAX_TABLES → All IsTable tables → a < b → b < length tables →
+        (table_at tables a).name ≡ (table_at tables b).name → (table : TableDef) × IsSchemaFault tables (fault.Twice table.name) }
 {}

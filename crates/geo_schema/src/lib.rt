@@ -20,7 +20,11 @@ mod table_rule;
 pub use column::{ColumnDef, ColumnList, Kind, PlaceList};
 pub use fault::{CellFault, SchemaFault};
 pub use index::{IndexDef, IndexList};
-pub use laws::{faultless_cells_are_rows, names_are_of_one_table};
+pub use laws::{
+    cells_are_a_row_or_have_one_fault, faultless_cells_are_rows, faultless_tables_are_schemas,
+    names_are_of_one_table, nothing_stands_twice, tables_are_a_schema_or_have_one_fault,
+    what_stands_twice_is_a_fault,
+};
 pub use range::{CellList, Edge, KeyRange};
 pub use row_rule::{cell_fault, is_in};
 pub use schema::Schema;

@@ -2,8 +2,9 @@
 ghost use Rattle.std.specs.Prelude.{◌≡◌, ◌<◌, ◌≤◌, true, length, map, slice_index_or, IfOk};
 ghost use Rattle.std.specs.List.{All};
 ghost use Rattle.geo_base.specs.declared.limits.TheConstants.{MAX_COLUMNS};
-ghost use Rattle.geo_schema.specs.Rows.{is_too_long, is_in, cell_fault, row_fault, key_cells};
-ghost use Rattle.geo_schema.specs.Tables.{is_table};
+ghost use Rattle.geo_schema.specs.Rows.{is_too_long, is_in, IsRow, key_cells};
+ghost use Rattle.geo_schema.specs.Tables.{IsTable};
+ghost use Rattle.geo_schema.specs.inner.Rows.{cell_fault, row_fault};
 
 use crate::column::{ColumnDef, Kind};
 use crate::fault::CellFault;
@@ -29,7 +30,7 @@ pub fn is_in(key: &[u8], place: u8) -> bool
 
 /// What is wrong with the cell of the column at the place, where the table has that key: its type, else a
 /// NULL where none may be, else its length. Takes a step for each key place.
-#[tactic(auto, unfolding(crate::specs::Rows::cell_fault))]
+#[tactic(auto, unfolding(crate::specs::inner::Rows::cell_fault))]
 pub fn cell_fault(key: &[u8], column: &ColumnDef, place: u8, cell: &Cell) -> Option<CellFault>
     ensures { result ≡ cell_fault key.now column.now place cell.now }
 {
@@ -46,7 +47,7 @@ pub fn cell_fault(key: &[u8], column: &ColumnDef, place: u8, cell: &Cell) -> Opt
 }
 
 /// Why the cells are no row of the table, if they are none. Takes a step for each cell and key place.
-#[tactic(auto, unfolding(crate::specs::Rows::row_fault))]
+#[tactic(auto, unfolding(crate::specs::inner::Rows::row_fault))]
 pub(crate) fn row_fault(table: &TableDef, cells: &[Cell]) -> Option<CellFault>
     requires { length table.now.columns ≤ MAX_COLUMNS }
     ensures { result ≡ row_fault table.now cells.now }
@@ -67,8 +68,8 @@ pub(crate) fn row_fault(table: &TableDef, cells: &[Cell]) -> Option<CellFault>
 /// The key of a row that fits the table.
 #[tactic(auto, unfolding(crate::specs::Rows::key_cells))]
 pub(crate) fn key_of_row(alloc: Global, table: &TableDef, cells: &[Cell]) -> Result<Key, NoMemory>
-    requires rules { is_table table.now ≡ true }
-    requires fits { row_fault table.now cells.now ≡ None }
+    requires rules { IsTable table.now }
+    requires fits { IsRow table.now cells.now }
     ensures { IfOk result (λ key. key ≡ key_cells table.now cells.now) }
 {
     let copies = copy_places(alloc, table.key.items(), cells)?;

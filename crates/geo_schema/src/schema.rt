@@ -1,10 +1,11 @@
-ghost use Rattle.std.specs.Prelude.{◌≡◌, ◌≤◌, ◌<◌, ◌⊎◌, true, length, IfOk, IfSome, MatchResult};
+ghost use Rattle.std.specs.Prelude.{◌≡◌, ◌≤◌, ◌<◌, ◌⊎◌, length, IfOk, IfErr, IfSome, MatchResult};
 ghost use Rattle.std.specs.List.{slice_get};
 ghost use Rattle.std.specs.Option.{option_copied};
 ghost use Rattle.geo_base.specs.declared.limits.TheConstants.{MAX_TABLES};
-ghost use Rattle.geo_schema.specs.Rows.{row_fault, key_cells};
-ghost use Rattle.geo_schema.specs.Tables.{is_table};
-ghost use Rattle.geo_schema.specs.Schemas.{schema_fault, IsSchema, table_at, number_of};
+ghost use Rattle.geo_schema.specs.Rows.{IsRow, IsRowFault, key_cells};
+ghost use Rattle.geo_schema.specs.Tables.{IsTable};
+ghost use Rattle.geo_schema.specs.Schemas.{IsSchema, IsSchemaFault, table_at, number_of};
+ghost use Rattle.geo_schema.specs.inner.Schemas.{schema_fault};
 
 use crate::alike::first_repeat;
 use crate::fault::{CellFault, SchemaFault};
@@ -37,27 +38,20 @@ impl Model for Schema {
 impl Schema {
     /// The schema of these tables. Compares the names of each two tables, and within a table those of
     /// each two columns, key places and indexes. Takes memory for the name in [`SchemaFault::Twice`] alone.
-    #[tactic(auto, unfolding(crate::specs::Schemas::schema_fault))]
+    #[tactic(auto, using(crate::specs::laws::Schemas::is_schema, crate::specs::laws::Schemas::is_schema_fault))]
     pub fn new(alloc: Global, tables: Vec<TableDef>) -> Result<Schema, SchemaFault>
-        ensures { MatchResult result
-            (λ s. (s ≡ tables.items) × (schema_fault tables.items ≡ None))
-            (λ e. (e ≡ SchemaFault.NoMemory) ⊎ (schema_fault tables.items ≡ Some e)) }
+        ensures schema { IfOk result (λ s. (s ≡ tables.items) × IsSchema tables.items) }
+        ensures fault { IfErr result (λ e. (e ≡ SchemaFault.NoMemory) ⊎ IsSchemaFault tables.items e) }
     {
-        if tables.len() > MAX_TABLES {
-            return Err(SchemaFault::TooManyTables);
-        }
-        if let Some(place) = first_bad_table(tables.as_slice()) {
-            return Err(SchemaFault::BadTable(place as TableNo));
-        }
-        if let Some(table) = first_repeat(tables.as_slice()) {
-            return Err(SchemaFault::Twice(table.name.copy(alloc)?));
-        }
+        let tables = faultless(alloc, tables)?;
         Ok(Schema { tables })
     }
 
     /// The table with the number.
+    #[tactic(auto, using(crate::proofs::KeptRules::table_got))]
     pub fn table(&self, no: TableNo) -> Option<&TableDef>
         ensures table { option_copied result ≡ slice_get self.now no }
+        ensures rules { IfSome result (λ table. IsTable table.now) }
         ensures schema { IsSchema self.now }
     {
         self.tables.get(no as usize)
@@ -66,7 +60,7 @@ impl Schema {
     fn table_at(&self, no: TableNo) -> &TableDef
         requires { no < length self.now }
         ensures table { result.now ≡ table_at self.now no }
-        ensures rules { is_table result.now ≡ true }
+        ensures rules { IsTable result.now }
     {
         &self.tables[no as usize]
     }
@@ -93,7 +87,7 @@ impl Schema {
     /// The key of a row that fits the table.
     pub fn key_of(&self, alloc: Global, table: TableNo, row: &RowImage) -> Result<Key, NoMemory>
         requires table { table < length self.now }
-        requires row { row_fault (table_at self.now table) row.now ≡ None }
+        requires row { IsRow (table_at self.now table) row.now }
         ensures { IfOk result (λ key. key ≡ key_cells (table_at self.now table) row.now) }
     {
         key_of_row(alloc, self.table_at(table), row.cells())
@@ -101,12 +95,11 @@ impl Schema {
 
     /// Whether the cells are a row of the table, and else which column is at fault first and why. Takes
     /// a step for each cell and key place.
-    #[tactic(auto, using(crate::specs::laws::Rules::few_columns))]
+    #[tactic(auto, using(crate::specs::laws::Fits::row_fits, crate::specs::laws::Fits::is_row_fault))]
     pub fn check_row(&self, table: TableNo, cells: &[Cell]) -> Result<(), CellFault>
         requires { table < length self.now }
-        ensures { MatchResult result
-            (λ _. row_fault (table_at self.now table) cells.now ≡ None)
-            (λ e. row_fault (table_at self.now table) cells.now ≡ Some e) }
+        ensures row { IfOk result (λ _. IsRow (table_at self.now table) cells.now) }
+        ensures fault { IfErr result (λ e. IsRowFault (table_at self.now table) cells.now e) }
     {
         match row_fault(self.table_at(table), cells) {
             Some(fault) => Err(fault),
@@ -128,4 +121,23 @@ fn place_of(tables: &[TableDef], name: &Txt) -> Option<usize>
     ensures within { IfSome result (λ place. place < length tables.now) }
 {
     tables.iter().position(|table| table.name == *name)
+}
+
+/// The tables, if they are those of a schema.
+#[tactic(auto, unfolding(crate::specs::inner::Schemas::schema_fault))]
+fn faultless(alloc: Global, tables: Vec<TableDef>) -> Result<Vec<TableDef>, SchemaFault>
+    ensures { MatchResult result
+        (λ kept. (kept.items ≡ tables.items) × (schema_fault tables.items ≡ None))
+        (λ e. (e ≡ SchemaFault.NoMemory) ⊎ (schema_fault tables.items ≡ Some e)) }
+{
+    if tables.len() > MAX_TABLES {
+        return Err(SchemaFault::TooManyTables);
+    }
+    if let Some(place) = first_bad_table(tables.as_slice()) {
+        return Err(SchemaFault::BadTable(place as TableNo));
+    }
+    if let Some(table) = first_repeat(tables.as_slice()) {
+        return Err(SchemaFault::Twice(table.name.copy(alloc)?));
+    }
+    Ok(tables)
 }

@@ -1,7 +1,7 @@
 //! Whether a table keeps the rules of tables.
 ghost use Rattle.std.specs.Prelude.{◌≡◌, ◌<◌, IfSome, length, nat_lt, position};
 ghost use Rattle.std.specs.List.{list_all};
-ghost use Rattle.geo_schema.specs.Tables.{is_name, is_column, are_columns, are_places, is_index, are_indexes, is_table, is_bad_table};
+ghost use Rattle.geo_schema.specs.inner.Tables.{is_name, is_column, are_columns, are_places, is_index, are_indexes, is_table, is_bad_table};
 
 use crate::alike::first_repeat;
 use crate::column::{ColumnDef, Kind};
@@ -19,7 +19,7 @@ fn is_name(name: &Txt) -> bool
     !name.is_empty() && name.len() <= MAX_NAME_BYTES
 }
 
-#[tactic(auto, unfolding(crate::specs::Tables::is_column))]
+#[tactic(auto, unfolding(crate::specs::inner::Tables::is_column))]
 fn is_column(column: &ColumnDef) -> bool
     ensures { result ≡ is_column column.now }
 {
@@ -36,7 +36,7 @@ fn each_is_column(columns: &[ColumnDef]) -> bool
     columns.iter().all(|column| is_column(column))
 }
 
-#[tactic(auto, unfolding(crate::specs::Tables::are_columns))]
+#[tactic(auto, unfolding(crate::specs::inner::Tables::are_columns))]
 fn are_columns(columns: &[ColumnDef]) -> bool
     ensures { result ≡ are_columns columns.now }
 {
@@ -52,7 +52,7 @@ fn each_is_place(columns: usize, places: &[u8]) -> bool
     places.iter().all(|place| (*place as usize) < columns)
 }
 
-#[tactic(auto, unfolding(crate::specs::Tables::are_places))]
+#[tactic(auto, unfolding(crate::specs::inner::Tables::are_places))]
 fn are_places(most: usize, columns: usize, places: &[u8]) -> bool
     ensures { result ≡ are_places most columns places.now }
 {
@@ -62,7 +62,7 @@ fn are_places(most: usize, columns: usize, places: &[u8]) -> bool
         && first_repeat(places).is_none()
 }
 
-#[tactic(auto, unfolding(crate::specs::Tables::is_index))]
+#[tactic(auto, unfolding(crate::specs::inner::Tables::is_index))]
 fn is_index(columns: usize, index: &IndexDef) -> bool
     ensures { result ≡ is_index columns index.now }
 {
@@ -75,7 +75,7 @@ fn each_is_index(columns: usize, indexes: &[IndexDef]) -> bool
     indexes.iter().all(|index| is_index(columns, index))
 }
 
-#[tactic(auto, unfolding(crate::specs::Tables::are_indexes))]
+#[tactic(auto, unfolding(crate::specs::inner::Tables::are_indexes))]
 fn are_indexes(columns: usize, indexes: &[IndexDef]) -> bool
     ensures { result ≡ are_indexes columns indexes.now }
 {
@@ -84,7 +84,7 @@ fn are_indexes(columns: usize, indexes: &[IndexDef]) -> bool
         && first_repeat(indexes).is_none()
 }
 
-#[tactic(auto, unfolding(crate::specs::Tables::is_table))]
+#[tactic(auto, unfolding(crate::specs::inner::Tables::is_table))]
 fn is_table(table: &TableDef) -> bool
     ensures { result ≡ is_table table.now }
 {

@@ -1,62 +1,123 @@
--- What the rules of tables and of schemas give.
-use Rattle.std.proofs.Common.{◌≡◌, ℕ, ◌<◌, ◌≤◌, true, ◌&&◌, nat_lt, nat_eq, Option, Some, None, List, length, get_or, position, refl, sym, subst, arith}
+-- Laws: the tests of the rules of tables pass exactly where the rules are kept.
+use Rattle.std.proofs.Common.{◌≡◌, ℕ, ◌<◌, ◌≤◌, Bool, true, ◌&&◌, nat_lt, nat_eq, Option, Some, None, List, length, get_or, refl, sym, ap, subst}
+use Rattle.std.specs.Prelude.{nat_le}
+use Rattle.std.specs.Bool.{Decides}
 use Rattle.std.specs.List.{All, list_all}
-use Rattle.std.specs.Option.{option_or, option_map}
-use Rattle.std.proofs.lemmas.Bool.{and_parts, not-false, ltb-true}
-use Rattle.std.proofs.lemmas.Bool.Decides.{nat_tests}
-use Rattle.std.proofs.lemmas.List.Sums.{AllPass-from_list_all}
-use Rattle.geo_base.specs.declared.limits.TheConstants.{MAX_TABLES, MAX_COLUMNS, MAX_KEY_CELLS}
-use Rattle.geo_schema.specs.declared.fault.SchemaFault.TheVariants as fault
+use Rattle.std.specs.Option.{is_none}
+use Rattle.std.proofs.lemmas.Bool.{and_parts, and_from, leb-true, le-leb, ltb-true, lt-ltb}
+use Rattle.std.proofs.lemmas.List.Sums.{AllPass-from_list_all, list_all-from_AllPass}
+use Rattle.geo_base.specs.declared.limits.TheConstants.{MAX_TABLES, MAX_TEXT_BYTES, MAX_COLUMNS, MAX_KEY_CELLS, MAX_INDEXES, MAX_INDEX_COLUMNS, MAX_NAME_BYTES}
+use Rattle.geo_schema.specs.declared.column.ColumnDef.{ColumnDef}
+use Rattle.geo_schema.specs.declared.column.Kind.{Kind}
+use Rattle.geo_schema.specs.declared.column.Kind.TheVariants as kind
+use Rattle.geo_schema.specs.declared.index.IndexDef.{IndexDef}
 use Rattle.geo_schema.specs.declared.table.TableDef.{TableDef}
-use Rattle.geo_schema.specs.Repeats.{first_repeat, is_distinct}
-use Rattle.geo_schema.specs.Tables.{is_count, is_column, same_column, same_table, are_columns, are_places, are_indexes, is_name, is_table, is_bad_table}
-use Rattle.geo_schema.specs.Schemas.{schema_fault, IsSchema}
-use Rattle.geo_schema.specs.laws.Places.{none_passes}
+use Rattle.geo_schema.specs.Repeats.{AreApart}
+use Rattle.geo_schema.specs.Schemas.{IsSchema}
+use Rattle.geo_schema.specs.Tables.{IsName, IsKind, IsColumn, ArePlaces, IsIndex, IsTable, same_column, same_index}
+use Rattle.geo_schema.specs.inner.Repeats.{is_distinct}
+use Rattle.geo_schema.specs.inner.Tables.{is_count, is_name, is_kind, is_column, are_columns, are_places, is_index, are_indexes, is_table}
+use Rattle.geo_schema.specs.laws.Apart.{are_apart, none_repeated}
+
+-- ---- tests that are put together
+
+both : (a b : Bool) {P Q : Type 0} → Decides a P → Decides b Q → Decides (a && b) (P × Q)
+both a b p q = (λ h. let parts = and_parts a b h in (p.0 parts.0, q.0 parts.1), λ x. and_from a b (p.1 x.0) (q.1 x.1))
+
+said : (b : Bool) {P Q : Type 0} → (P → Q) → (Q → P) → Decides b P → Decides b Q
+said b f g d = (λ h. f (d.0 h), λ q. d.1 (g q))
+
+at_most : (a b : ℕ) → Decides (nat_le a b) (a ≤ b)
+at_most a b = (leb-true a b, le-leb a b)
+
+below : (a b : ℕ) → Decides (nat_lt a b) (a < b)
+below a b = (ltb-true a b, lt-ltb a b)
+
+each : {A : Type 0} (test : A → Bool) (P : A → Type 0) → ((x : A) → Decides (test x) (P x)) → (xs : List A) → Decides (list_all test xs) (All P xs)
+each test P tells xs = (
+  λ h k d lt. (tells (get_or xs k d)).0 (AllPass-from_list_all test xs h k d lt),
+  λ all. list_all-from_AllPass test xs (λ k d lt. (tells (get_or xs k d)).1 (all k d lt)),
+)
+
+none_is : {A : Type 0} (o : Option A) → is_none o ≡ true → o ≡ None
+none_is None e = refl
+none_is (Some x) e = cc
+
+apart_tells : {A : Type 0} (same : A → A → Bool) (items : List A) → Decides (is_distinct same items) (AreApart same items)
+apart_tells same items = (λ h i j d. are_apart same items i j d (none_is _ h), λ apart. ap is_none (none_repeated same items apart))
+
+counted : {A : Type 0} (most : ℕ) (items : List A) → Decides (is_count most items) ((1 ≤ length items) × (length items ≤ most))
+counted most items = both (nat_le 1 (length items)) (nat_le (length items) most) (at_most 1 (length items)) (at_most (length items) most)
 
 -- ---- tables
 
--- what the places of a key or an index are
-pub record ArePlaces (most columns : ℕ) (places : List ℕ) : Type 0 where
-  pub some : 1 ≤ length places
-  pub few : length places ≤ most
-  pub within : All (λ place. place < columns) places
+name_tells : (bytes : List ℕ) → Decides (is_name bytes) (IsName bytes)
+name_tells bytes = said (is_name bytes) (λ p. record { some = p.0; few = p.1 }) (λ n. (n.some, n.few)) (counted MAX_NAME_BYTES bytes)
 
-counted : {A : Type 0} (most : ℕ) (items : List A) → is_count most items ≡ true → (1 ≤ length items) × (length items ≤ most)
-counted most items h = (grind (arith, nat_tests), grind (arith, nat_tests))
+kind_tells : (k : Kind) → Decides (is_kind k) (IsKind k)
+kind_tells kind.Int = (λ _. tt, λ _. refl)
+kind_tells (kind.Text max) = at_most max MAX_TEXT_BYTES
+kind_tells kind.Truth = (λ _. tt, λ _. refl)
 
-pub places_are : (most columns : ℕ) (places : List ℕ) → are_places most columns places ≡ true → ArePlaces most columns places
+column_tells : (column : ColumnDef) → Decides (is_column column) (IsColumn column)
+unfolding is_column
+column_tells column =
+    said (is_column column) (λ p. record { name = p.0; takes = p.1 }) (λ c. (c.name, c.takes))
+    (both (is_name column.name) (is_kind column.kind) (name_tells column.name) (kind_tells column.kind))
+
+pub places_tell : (most columns : ℕ) (places : List ℕ) → Decides (are_places most columns places) (ArePlaces most columns places)
 unfolding are_places
-places_are most columns places h =
-    let parts = and_parts (is_count most places) (list_all (λ place. nat_lt place columns) places && is_distinct nat_eq places) h in
-    let count = counted most places parts.0 in
-    let within = AllPass-from_list_all (λ place. nat_lt place columns) places (and_parts (list_all (λ place. nat_lt place columns) places) (is_distinct nat_eq places) parts.1).0 in
-    record {
-      some = count.0;
-      few = count.1;
-      within = λ k d h. ltb-true (get_or places k d) columns (within k d h);
-    }
+places_tell most columns places =
+    let within = list_all (λ place. nat_lt place columns) places in
+    said (are_places most columns places) (λ p. record { some = p.0.0; few = p.0.1; within = p.1.0; apart = p.1.1 }) (λ r. ((r.some, r.few), (r.within, r.apart)))
+    (both (is_count most places) (within && is_distinct nat_eq places) (counted most places)
+    (both within (is_distinct nat_eq places) (each (λ place. nat_lt place columns) (λ place. place < columns) (λ place. below place columns) places) (apart_tells nat_eq places)))
 
--- what a table of a schema has
-pub record HasRules (table : TableDef) : Type 0 where
-  pub some : 1 ≤ length table.columns
-  pub few : length table.columns ≤ MAX_COLUMNS
-  pub key : ArePlaces MAX_KEY_CELLS (length table.columns) table.key
+index_tells : (columns : ℕ) (index : IndexDef) → Decides (is_index columns index) (IsIndex columns index)
+unfolding is_index
+index_tells columns index =
+    said (is_index columns index) (λ p. record { name = p.0; places = p.1 }) (λ r. (r.name, r.places))
+    (both (is_name index.name) (are_places MAX_INDEX_COLUMNS columns index.columns) (name_tells index.name) (places_tell MAX_INDEX_COLUMNS columns index.columns))
 
-columns_counted : (table : TableDef) → are_columns table.columns ≡ true → (1 ≤ length table.columns) × (length table.columns ≤ MAX_COLUMNS)
+columns_tell : (columns : List ColumnDef) →
+    Decides (are_columns columns) (((1 ≤ length columns) × (length columns ≤ MAX_COLUMNS)) × (All IsColumn columns × AreApart same_column columns))
 unfolding are_columns
-columns_counted table h =
-    counted MAX_COLUMNS table.columns (and_parts (is_count MAX_COLUMNS table.columns) (list_all is_column table.columns && is_distinct same_column table.columns) h).0
+columns_tell columns =
+    both (is_count MAX_COLUMNS columns) (list_all is_column columns && is_distinct same_column columns) (counted MAX_COLUMNS columns)
+    (both (list_all is_column columns) (is_distinct same_column columns) (each is_column IsColumn column_tells columns) (apart_tells same_column columns))
 
-pub has_rules : (table : TableDef) → is_table table ≡ true → HasRules table
+indexes_tell : (columns : ℕ) (indexes : List IndexDef) →
+    Decides (are_indexes columns indexes) ((length indexes ≤ MAX_INDEXES) × (All (IsIndex columns) indexes × AreApart same_index indexes))
+unfolding are_indexes
+indexes_tell columns indexes =
+    both (nat_le (length indexes) MAX_INDEXES) (list_all (is_index columns) indexes && is_distinct same_index indexes) (at_most (length indexes) MAX_INDEXES)
+    (both (list_all (is_index columns) indexes) (is_distinct same_index indexes) (each (is_index columns) (IsIndex columns) (index_tells columns) indexes) (apart_tells same_index indexes))
+
+pub table_tells : (table : TableDef) → Decides (is_table table) (IsTable table)
 unfolding is_table
-has_rules table h =
+table_tells table =
     let columns = length table.columns in
-    let indexes = are_indexes columns table.indexes in
     let key = are_places MAX_KEY_CELLS columns table.key in
-    let parts = and_parts (is_name table.name) (are_columns table.columns && (key && indexes)) h in
-    let more = and_parts (are_columns table.columns) (key && indexes) parts.1 in
-    let count = columns_counted table more.0 in
-    record { some = count.0; few = count.1; key = places_are MAX_KEY_CELLS columns table.key (and_parts key indexes more.1).0 }
+    let indexes = are_indexes columns table.indexes in
+    said (is_table table)
+    (λ p. record {
+      name = p.0;
+      some = p.1.0.0.0;
+      few = p.1.0.0.1;
+      columns = p.1.0.1.0;
+      apart = p.1.0.1.1;
+      key = p.1.1.0;
+      few_indexes = p.1.1.1.0;
+      indexes = p.1.1.1.1.0;
+      indexes_apart = p.1.1.1.1.1;
+    })
+    (λ r. (r.name, (((r.some, r.few), (r.columns, r.apart)), (r.key, (r.few_indexes, (r.indexes, r.indexes_apart))))))
+    (both (is_name table.name) (are_columns table.columns && (key && indexes)) (name_tells table.name)
+    (both (are_columns table.columns) (key && indexes) (columns_tell table.columns)
+    (both key indexes (places_tell MAX_KEY_CELLS columns table.key) (indexes_tell columns table.indexes))))
+
+pub has_rules : (table : TableDef) → is_table table ≡ true → IsTable table
+has_rules table h = (table_tells table).0 h
 
 pub few_columns : (table : TableDef) → is_table table ≡ true → length table.columns ≤ MAX_COLUMNS
 few_columns table h = (has_rules table h).few
@@ -64,22 +125,8 @@ few_columns table h = (has_rules table h).few
 -- ---- schemas
 
 pub few_tables : (tables : List TableDef) → IsSchema tables → length tables ≤ MAX_TABLES
-unfolding schema_fault
-few_tables tables schema = grind (arith, nat_tests)
-
-first_none : {A B C : Type 0} (f : A → C) (g : B → C) (a : Option A) (b : Option B) → option_or (option_map f a) (option_map g b) ≡ None → (a ≡ None) × (b ≡ None)
-first_none f g None None h = (refl, refl)
-first_none f g None (Some y) h = cc
-first_none f g (Some x) b h = cc
-
-pub faultless : (tables : List TableDef) → IsSchema tables → (position is_bad_table tables ≡ None) × (first_repeat same_table tables ≡ None)
-unfolding schema_fault
-faultless tables schema =
-    let few = few_tables tables schema in
-    first_none fault.BadTable (λ (table : TableDef). fault.Twice table.name) (position is_bad_table tables) (first_repeat same_table tables) (grind (arith, nat_tests))
+few_tables tables schema = schema.few
 
 -- each table of a schema keeps the rules of tables
 pub keeps_rules : (tables : List TableDef) (number : ℕ) (table : TableDef) → IsSchema tables → number < length tables → table ≡ get_or tables number table → is_table table ≡ true
-keeps_rules tables number table schema within here =
-    subst (λ t. is_table t ≡ true) (sym here)
-    (not-false (is_table (get_or tables number table)) (none_passes is_bad_table tables number table (faultless tables schema).0 within))
+keeps_rules tables number table schema within here = (table_tells table).1 (subst IsTable (sym here) (schema.rules number table within))

@@ -1,5 +1,5 @@
 use Rattle.std.proofs.Common.{◌∙◌, sym}
-use Rattle.geo_schema.specs.laws.Steps.{found_repeat, no_repeat}
+use Rattle.geo_schema.proofs.Repeats.{found_repeat, no_repeat}
 use Rattle.geo_schema.proofs.alike.first_repeat.Goals as goal
 
 pub returns-then-has_alike : goal.returns-then-has_alike

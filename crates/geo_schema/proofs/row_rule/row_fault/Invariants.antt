@@ -1,6 +1,6 @@
 -- no column so far is at fault
 use Rattle.std.proofs.Common.{◌≡◌, drop}
-use Rattle.geo_schema.specs.Rows.{cells_fault}
+use Rattle.geo_schema.specs.inner.Rows.{cells_fault}
 use Rattle.geo_schema.proofs.row_rule.row_fault.Given as goal
 
 abbrev pub invariant-loop-place : goal.invariant-loop-place
