@@ -1,11 +1,2 @@
 pub mod Texts
-pub mod Steps
-pub mod Places
-pub mod Fields
-pub mod CellReads
-pub mod CellsReads
-pub mod Causes
-pub mod Refusals
-pub mod Answers
 pub mod Beginnings
-pub mod Loop

@@ -1,4 +1,9 @@
+pub mod Places
+pub mod Parts
+pub mod Fields
+pub mod Answers
 pub mod Spelling
-pub mod Reading
-pub mod Laws
 pub mod Faults
+pub mod Alone
+pub mod inner
+pub mod laws

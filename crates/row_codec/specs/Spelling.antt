@@ -1,10 +1,11 @@
 -- The one spelling of each cell, and where it stands in bytes.
-use Rattle.std.specs.Prelude.{◌≡◌, ℕ, ◌+◌, List, [], ◌∷◌, ◌++◌, length, drop, true, false, FitsSigned}
+use Rattle.std.specs.Prelude.{ℕ, List, [], ◌∷◌, ◌++◌, length, true, false, FitsSigned}
 use Rattle.std.specs.List.{flat_map, AllByRecursion}
 use Rattle.std.specs.Int.{w16, w64, to_be_bytes, cast_unsigned}
 use Rattle.geo_base.specs.Cells.{IsText}
 use Rattle.geo_base.specs.declared.cell.Cell.{Cell}
 use Rattle.geo_base.specs.declared.cell.Cell.TheVariants.{Null, Int, Text, Truth}
+use Rattle.row_codec.specs.Places.{StandsAt}
 
 -- a tag; behind it a number's 8 bytes in two's complement, or a text's length in 2 bytes and the text
 abbrev pub cell_spelling : Cell → List ℕ
@@ -28,7 +29,10 @@ IsCell (Truth x) = Unit {0}
 abbrev pub AreCells : List Cell → Type 0
 AreCells cells = AllByRecursion IsCell cells
 
--- the bytes have the spelled ones at a place, and next is the place behind them
-pub record StandsAt (spelled bytes : List ℕ) (at next : ℕ) : Type 0 where
-  pub parts : drop at bytes ≡ spelled ++ drop next bytes
-  pub behind : next ≡ at + length spelled
+-- a cell of the program stands at the place in its spelling
+abbrev pub CellStands : List ℕ → ℕ → Cell × ℕ → Type 0
+CellStands bytes at x = IsCell x.0 × StandsAt (cell_spelling x.0) bytes at x.1
+
+-- such cells stand there one after another
+abbrev pub CellsStand : List ℕ → ℕ → List Cell × ℕ → Type 0
+CellsStand bytes at x = AreCells x.0 × StandsAt (cells_spelling x.0) bytes at x.1

@@ -1,6 +1,7 @@
 ghost use Rattle.std.specs.Prelude.{◌≡◌};
-ghost use Rattle.row_codec.specs.declared.fault.CellReadFault.TheVariants.{NoMemory};
+ghost use Rattle.row_codec.specs.declared.fault.CellReadFault.TheVariants.{Short, NoMemory};
 
+use crate::fields::FieldFault;
 use std::alloc::{AllocError, AllocFailed};
 
 /// Why no cell was read, with the place of what is at fault.
@@ -31,5 +32,13 @@ impl<T: Drop> From<AllocFailed<T>> for CellReadFault {
 
     fn from(_e: AllocFailed<T>) -> CellReadFault {
         CellReadFault::NoMemory
+    }
+}
+
+impl FieldFault for CellReadFault {
+    ghost short = { Short };
+
+    fn short_at(end: usize) -> CellReadFault {
+        CellReadFault::Short(end)
     }
 }

@@ -1,17 +1,10 @@
-ghost use Rattle.row_codec.specs.Laws.{CellReadIsSpelled, SpelledCellIsRead, CellsReadAreSpelled, SpelledCellsAreRead, CellNotReadIsAtFault, CellsNotReadAreAtFault, NoCellBeginsAnother, NoCellsBeginOthers};
+ghost use Rattle.row_codec.specs.Alone.{OneCellOrFault, SoManyCellsOrFault, NoCellBeginsAnother, NoCellsBeginOthers};
 
-/// What is read is what is spelled there, for one cell and for cells one after another.
-pub fn reading_undoes_spelling()
-    ensures found { CellReadIsSpelled }
-    ensures only { SpelledCellIsRead }
-    ensures all_found { CellsReadAreSpelled }
-    ensures only_all { SpelledCellsAreRead }
-{}
-
-/// A fault says what is wrong with the bytes, and where, and is answered exactly where the bytes have it.
-pub fn each_fault_has_its_cause()
-    ensures cell { CellNotReadIsAtFault }
-    ensures cells { CellsNotReadAreAtFault }
+/// At each place of bytes one cell stands, or they have one fault there, and not both; and so for so many
+/// cells one after another.
+pub fn one_answer_at_each_place()
+    ensures cell { OneCellOrFault }
+    ensures cells { SoManyCellsOrFault }
 {}
 
 /// No spelling of a cell begins another's, nor that of equally many cells, so equal spellings are

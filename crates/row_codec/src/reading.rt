@@ -1,61 +1,42 @@
+//! Cells that stand at a place.
 ghost use Rattle.std.specs.Prelude.{◌≡◌, ◌≤◌, ◌⊎◌, length, true, false, IfOk, IfErr, MatchOption};
-ghost use Rattle.std.specs.Int.{w16};
 ghost use Rattle.std.specs.Str.{is_utf8};
+ghost use Rattle.geo_base.specs.Results.{Gives};
 ghost use Rattle.row_codec.specs.declared.fault.CellReadFault.TheVariants.{NoMemory};
+ghost use Rattle.row_codec.specs.Answers.{Reads, Refuses};
 ghost use Rattle.row_codec.specs.Faults.{IsFaultAt, IsFaultOfCells};
-ghost use Rattle.row_codec.specs.Spelling.{cell_spelling, cells_spelling, IsCell, AreCells, StandsAt};
-ghost use Rattle.row_codec.specs.Reading.{Gives, field_at, tag_at, number_at, content_at, text_at, int_cell_at, text_cell_at, tagged_at, cell_at, cells_at};
+ghost use Rattle.row_codec.specs.Spelling.{CellStands, CellsStand};
+ghost use Rattle.row_codec.specs.inner.Reading.{length_at, content_at, text_at, int_cell_at, text_cell_at, tagged_at, cell_at, cells_at};
 
 use crate::fault::CellReadFault;
+use crate::fields::{read_byte, read_field, read_u16, read_u64};
 use crate::tag;
 use geo_base::limits::MAX_TEXT_BYTES;
 use geo_base::{Cell, Txt, TxtFault};
 use std::alloc::Global;
 
-#[tactic(auto, unfolding(crate::specs::Reading::field_at))]
-fn read_field(bytes: &[u8], at: usize, count: usize) -> Result<(&[u8], usize), CellReadFault>
-    requires { at ≤ length bytes.now }
-    ensures exact { Gives (λ x. (x.0.now, x.1)) result (field_at count bytes.now at) }
-    ensures within { IfOk result (λ x. x.1 ≤ length bytes.now) }
-    ensures len { IfOk result (λ x. length x.0.now ≡ count) }
-{
-    if bytes.len() - at < count {
-        return Err(CellReadFault::Short(bytes.len()));
-    }
-    Ok((&bytes[at..at + count], at + count))
-}
-
-#[tactic(auto, unfolding(crate::specs::Reading::tag_at))]
-fn read_tag(bytes: &[u8], at: usize) -> Result<(u8, usize), CellReadFault>
-    requires { at ≤ length bytes.now }
-    ensures exact { Gives (λ x. x) result (tag_at bytes.now at) }
-    ensures within { IfOk result (λ x. x.1 ≤ length bytes.now) }
-{
-    let (field, next) = read_field(bytes, at, 1)?;
-    Ok((field[0], next))
-}
-
-#[tactic(auto, unfolding(crate::specs::Reading::number_at))]
-fn read_u16(bytes: &[u8], at: usize) -> Result<(u16, usize), CellReadFault>
-    requires { at ≤ length bytes.now }
-    ensures exact { Gives (λ x. x) result (number_at w16 bytes.now at) }
-    ensures within { IfOk result (λ x. x.1 ≤ length bytes.now) }
-{
-    let (field, next) = read_field(bytes, at, 2)?;
-    Ok((u16::from_be_bytes([field[0], field[1]]), next))
-}
-
-#[tactic(auto, unfolding(crate::specs::Reading::number_at, crate::specs::Reading::int_cell_at))]
+#[tactic(auto, unfolding(crate::specs::inner::Reading::int_cell_at))]
 fn read_int(bytes: &[u8], at: usize) -> Result<(Cell, usize), CellReadFault>
     requires { at ≤ length bytes.now }
-    ensures exact { Gives (λ x. x) result (int_cell_at bytes.now at) }
+    ensures exact { Gives NoMemory (λ x. x) result (int_cell_at bytes.now at) }
     ensures within { IfOk result (λ x. x.1 ≤ length bytes.now) }
 {
-    let (field, next) = read_field(bytes, at, 8)?;
-    let number = i64::from_be_bytes([
-        field[0], field[1], field[2], field[3], field[4], field[5], field[6], field[7],
-    ]);
-    Ok((Cell::Int(number), next))
+    let (number, next) = read_u64::<CellReadFault>(bytes, at)?;
+    Ok((Cell::Int(number.cast_signed()), next))
+}
+
+/// The length of a text.
+#[tactic(auto, unfolding(crate::specs::inner::Reading::length_at))]
+fn read_length(bytes: &[u8], at: usize) -> Result<(u16, usize), CellReadFault>
+    requires { at ≤ length bytes.now }
+    ensures exact { Gives NoMemory (λ x. x) result (length_at bytes.now at) }
+    ensures within { IfOk result (λ x. x.1 ≤ length bytes.now) }
+{
+    let (count, next) = read_u16::<CellReadFault>(bytes, at)?;
+    if count as usize > MAX_TEXT_BYTES {
+        return Err(CellReadFault::TooLong(at));
+    }
+    Ok((count, next))
 }
 
 /// The bytes as a text, where they are UTF-8.
@@ -69,32 +50,28 @@ fn utf8_of(bytes: &[u8]) -> Option<&str>
     }
 }
 
-#[tactic(auto, unfolding(crate::specs::Reading::content_at))]
+#[tactic(auto, unfolding(crate::specs::inner::Reading::content_at))]
 fn read_content(bytes: &[u8], at: usize, count: usize) -> Result<(&str, usize), CellReadFault>
     requires { at ≤ length bytes.now }
-    ensures exact { Gives (λ x. (x.0.now, x.1)) result (content_at count bytes.now at) }
+    ensures exact { Gives NoMemory (λ x. (x.0.now, x.1)) result (content_at count bytes.now at) }
     ensures within { IfOk result (λ x. x.1 ≤ length bytes.now) }
     ensures len { IfOk result (λ x. length x.0.now ≡ count) }
 {
-    let (field, next) = read_field(bytes, at, count)?;
+    let (field, next) = read_field::<CellReadFault>(bytes, at, count)?;
     match utf8_of(field) {
         Some(text) => Ok((text, next)),
         None => Err(CellReadFault::BadUtf8(at)),
     }
 }
 
-#[tactic(auto, unfolding(crate::specs::Reading::text_at))]
+#[tactic(auto, unfolding(crate::specs::inner::Reading::length_at, crate::specs::inner::Reading::text_at))]
 fn read_text(alloc: Global, bytes: &[u8], at: usize) -> Result<(Txt, usize), CellReadFault>
     requires { at ≤ length bytes.now }
-    ensures exact { Gives (λ x. x) result (text_at bytes.now at) }
+    ensures exact { Gives NoMemory (λ x. x) result (text_at bytes.now at) }
     ensures within { IfOk result (λ x. x.1 ≤ length bytes.now) }
 {
-    let (count, from) = read_u16(bytes, at)?;
-    let count = count as usize;
-    if count > MAX_TEXT_BYTES {
-        return Err(CellReadFault::TooLong(at));
-    }
-    let (text, next) = read_content(bytes, from, count)?;
+    let (count, from) = read_length(bytes, at)?;
+    let (text, next) = read_content(bytes, from, count as usize)?;
     match Txt::new(alloc, text) {
         Ok(text) => Ok((text, next)),
         Err(TxtFault::TooLong) => Err(CellReadFault::TooLong(at)),
@@ -102,10 +79,10 @@ fn read_text(alloc: Global, bytes: &[u8], at: usize) -> Result<(Txt, usize), Cel
     }
 }
 
-#[tactic(auto, unfolding(crate::specs::Reading::text_cell_at))]
+#[tactic(auto, unfolding(crate::specs::inner::Reading::text_cell_at))]
 fn read_text_cell(alloc: Global, bytes: &[u8], at: usize) -> Result<(Cell, usize), CellReadFault>
     requires { at ≤ length bytes.now }
-    ensures exact { Gives (λ x. x) result (text_cell_at bytes.now at) }
+    ensures exact { Gives NoMemory (λ x. x) result (text_cell_at bytes.now at) }
     ensures within { IfOk result (λ x. x.1 ≤ length bytes.now) }
 {
     let (text, next) = read_text(alloc, bytes, at)?;
@@ -113,7 +90,7 @@ fn read_text_cell(alloc: Global, bytes: &[u8], at: usize) -> Result<(Cell, usize
 }
 
 /// The cell of a tag, which stands at `at`; what the tag wants stands at `next`.
-#[tactic(auto, unfolding(crate::specs::Reading::tagged_at))]
+#[tactic(auto, unfolding(crate::specs::inner::Reading::tagged_at))]
 fn read_tagged(
     alloc: Global,
     bytes: &[u8],
@@ -122,7 +99,7 @@ fn read_tagged(
     next: usize,
 ) -> Result<(Cell, usize), CellReadFault>
     requires { next ≤ length bytes.now }
-    ensures exact { Gives (λ x. x) result (tagged_at tag bytes.now at next) }
+    ensures exact { Gives NoMemory (λ x. x) result (tagged_at tag bytes.now at next) }
     ensures within { IfOk result (λ x. x.1 ≤ length bytes.now) }
 {
     match tag {
@@ -136,23 +113,24 @@ fn read_tagged(
 }
 
 /// The cell whose tag stands at the place.
-#[tactic(auto, unfolding(crate::specs::Reading::cell_at))]
+#[tactic(auto, unfolding(crate::specs::inner::Reading::cell_at))]
 fn read_from_tag(alloc: Global, bytes: &[u8], at: usize) -> Result<(Cell, usize), CellReadFault>
     requires { at ≤ length bytes.now }
-    ensures exact { Gives (λ x. x) result (cell_at bytes.now at) }
+    ensures exact { Gives NoMemory (λ x. x) result (cell_at bytes.now at) }
     ensures within { IfOk result (λ x. x.1 ≤ length bytes.now) }
 {
-    let (tag, next) = read_tag(bytes, at)?;
+    let (tag, next) = read_byte::<CellReadFault>(bytes, at)?;
     read_tagged(alloc, bytes, tag, at, next)
 }
 
 /// The cell whose spelling stands at the place, and the place behind it.
 pub fn read_cell(alloc: Global, bytes: &[u8], at: usize) -> Result<(Cell, usize), CellReadFault>
     requires { at ≤ length bytes.now }
-    ensures exact { Gives (λ x. x) result (cell_at bytes.now at) }
-    ensures within { IfOk result (λ x. x.1 ≤ length bytes.now) }
-    ensures found { IfOk result (λ x. IsCell x.0 × StandsAt (cell_spelling x.0) bytes.now at x.1) }
+    ensures found { IfOk result (λ x. CellStands bytes.now at x) }
+    ensures only { Reads NoMemory (λ x. x) result (CellStands bytes.now at) }
     ensures fault { IfErr result (λ e. (e ≡ NoMemory) ⊎ IsFaultAt bytes.now at e) }
+    ensures refused { Refuses NoMemory result (IsFaultAt bytes.now at) }
+    ensures within { IfOk result (λ x. x.1 ≤ length bytes.now) }
 {
     read_from_tag(alloc, bytes, at)
 }
@@ -164,13 +142,13 @@ fn read_one_after_another(
     count: u8,
 ) -> Result<(Vec<Cell>, usize), CellReadFault>
     requires { at ≤ length bytes.now }
-    ensures exact { Gives (λ x. (x.0.items, x.1)) result (cells_at bytes.now at count) }
+    ensures exact { Gives NoMemory (λ x. (x.0.items, x.1)) result (cells_at bytes.now at count) }
     ensures within { IfOk result (λ x. x.1 ≤ length bytes.now) }
 {
     let mut cells = Vec::new(alloc);
     let mut next = at;
     for _ in 0..count {
-        let (cell, behind) = read_cell(alloc, bytes, next)?;
+        let (cell, behind) = read_from_tag(alloc, bytes, next)?;
         cells.push(cell)?;
         next = behind;
     }
@@ -186,11 +164,11 @@ pub fn read_cells(
     count: u8,
 ) -> Result<(Vec<Cell>, usize), CellReadFault>
     requires { at ≤ length bytes.now }
-    ensures exact { Gives (λ x. (x.0.items, x.1)) result (cells_at bytes.now at count) }
-    ensures within { IfOk result (λ x. x.1 ≤ length bytes.now) }
-    ensures found { IfOk result (λ x. AreCells x.0.items × StandsAt (cells_spelling x.0.items) bytes.now at x.1) }
-    ensures len { IfOk result (λ x. length x.0.items ≡ count) }
+    ensures found { IfOk result (λ x. (length x.0.items ≡ count) × CellsStand bytes.now at (x.0.items, x.1)) }
+    ensures only { Reads NoMemory (λ x. (x.0.items, x.1)) result (λ x. (length x.0 ≡ count) × CellsStand bytes.now at x) }
     ensures fault { IfErr result (λ e. (e ≡ NoMemory) ⊎ IsFaultOfCells bytes.now at count e) }
+    ensures refused { Refuses NoMemory result (IsFaultOfCells bytes.now at count) }
+    ensures within { IfOk result (λ x. x.1 ≤ length bytes.now) }
 {
     read_one_after_another(alloc, bytes, at, count)
 }

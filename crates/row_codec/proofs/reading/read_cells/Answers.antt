@@ -1,12 +1,16 @@
 use Rattle.std.proofs.Common.{arith}
-use Rattle.row_codec.proofs.Answers.{cells_found, cells_counted, cells_faulty}
+use Rattle.row_codec.specs.laws.Cells.{cells_tell}
+use Rattle.row_codec.specs.laws.Tells.{answer_found, answer_only, answer_faulty, answer_refused}
 use Rattle.row_codec.proofs.reading.read_cells.Goals as goal
 
 pub returns-clause-found : goal.returns-clause-found
-returns-clause-found c = cells_found c.args.bytes.now c.args.at (λ i. omega (arith, c.type_inv.bytes i)) (λ x. (x.0.items, x.1)) c.args.count _ c.read_one_after_another.ensures.exact
+returns-clause-found c = answer_found _ (λ x. (x.0.items, x.1)) _ _ _ _ (cells_tell c.args.bytes.now c.args.at c.args.count) (λ i. omega (arith, c.type_inv.bytes i)) _ c.read_one_after_another.ensures.exact
 
-pub returns-clause-len : goal.returns-clause-len
-returns-clause-len c = cells_counted c.args.bytes.now c.args.at (λ i. omega (arith, c.type_inv.bytes i)) (λ x. (x.0.items, x.1)) c.args.count _ c.read_one_after_another.ensures.exact
+pub returns-clause-only : goal.returns-clause-only
+returns-clause-only c = answer_only _ (λ x. (x.0.items, x.1)) _ _ _ _ (cells_tell c.args.bytes.now c.args.at c.args.count) (λ i. omega (arith, c.type_inv.bytes i)) _ c.read_one_after_another.ensures.exact
 
 pub returns-clause-fault : goal.returns-clause-fault
-returns-clause-fault c = cells_faulty c.args.bytes.now c.args.at (λ i. omega (arith, c.type_inv.bytes i)) (λ x. (x.0.items, x.1)) c.args.count _ c.read_one_after_another.ensures.exact
+returns-clause-fault c = answer_faulty _ (λ x. (x.0.items, x.1)) _ _ _ _ (cells_tell c.args.bytes.now c.args.at c.args.count) (λ i. omega (arith, c.type_inv.bytes i)) _ c.read_one_after_another.ensures.exact
+
+pub returns-clause-refused : goal.returns-clause-refused
+returns-clause-refused c = answer_refused _ (λ x. (x.0.items, x.1)) _ _ _ _ (cells_tell c.args.bytes.now c.args.at c.args.count) (λ i. omega (arith, c.type_inv.bytes i)) _ c.read_one_after_another.ensures.exact

@@ -1,0 +1,3 @@
+-- What only readers' bodies, and the laws about them, speak of.
+pub mod Things
+pub mod Reading
