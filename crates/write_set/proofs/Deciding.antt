@@ -11,16 +11,18 @@ use Rattle.geo_base.specs.declared.claim.Claim.{Claim}
 use Rattle.geo_base.specs.declared.outcome.Outcome.{Outcome}
 use Rattle.geo_base.specs.declared.outcome.Outcome.TheVariants.{Committed, Changed, Beaten}
 use Rattle.geo_base.specs.Order.{row_cmp, row_eq}
-use Rattle.geo_base.specs.OrderLaws.{row_cmp_total, same_row}
-use Rattle.geo_base.proofs.Winning.{beats_total}
+use Rattle.geo_base.specs.laws.Orders.{row_cmp_total, same_row}
+use Rattle.geo_base.specs.laws.Winning.{beats_total}
 use Rattle.write_set.specs.Sets.{ChangeOfRow, has_row, Rises}
 use Rattle.write_set.specs.Journal.{Journal, Placed, epochs_of}
 use Rattle.write_set.specs.Merge.{claim_of, wins, id_of, is_fresh, contenders, is_beaten_on, first_changed, first_beaten, changed_or, beaten_or_committed, winner_of, verdict_of, committed, last_change}
 use Rattle.write_set.specs.Rules.{IsLastChange, IsLeast, IsFresh, IsContender, IsBeaten, IsBest, IsVerdict}
-use Rattle.write_set.proofs.Among.{true_or_false, any_among, any_found, all_pass, found_among}
-use Rattle.write_set.proofs.Rivals.{row_among, row_same, fresh_bound, fresh_unchanged, contender, contender_is, IsWinner, beaten_winner, unbeaten_on}
-use Rattle.write_set.proofs.Placing.{length_epochs}
-use Rattle.write_set.proofs.Isolating.{row_above, rise_rest, changed_since}
+use Rattle.write_set.specs.laws.Among.{true_or_false, any_among, any_found, all_pass}
+use Rattle.write_set.proofs.Searches.{found_among}
+use Rattle.write_set.specs.laws.Rivals.{row_among, row_same, fresh_bound, fresh_unchanged, contender, unbeaten_on}
+use Rattle.write_set.proofs.Winners.{contender_is, IsWinner, beaten_winner}
+use Rattle.write_set.specs.laws.Placing.{length_epochs}
+use Rattle.write_set.specs.laws.Isolating.{row_above, rise_rest, changed_since}
 
 -- ---- the first row that is such is the least one
 
@@ -93,7 +95,7 @@ module _ (last : RowId → ℕ) where
 
     -- ---- the verdict is one that the rules allow
     module _ (epoch : ℕ) where
-      pub verdict_allowed : (c : Placed) → Rises c.set → IsVerdict last epoch all c (verdict_of last epoch all c)
+      verdict_allowed : (c : Placed) → Rises c.set → IsVerdict last epoch all c (verdict_of last epoch all c)
       verdict_allowed c rise = by (first_changed last c) (first_beaten last all c) refl refl
         where
           by : (o b : Option ChangeOfRow) → first_changed last c ≡ o → first_beaten last all c ≡ b →
@@ -137,7 +139,7 @@ module _ (last : RowId → ℕ) where
       not_fresh c row fresh least = absurd (omega (arith, fresh row least.has, least.such))
 
       -- and the rules allow one alone
-      pub verdict_once : (c : Placed) (o q : Outcome) → IsVerdict last epoch all c o → IsVerdict last epoch all c q → o ≡ q
+      verdict_once : (c : Placed) (o q : Outcome) → IsVerdict last epoch all c o → IsVerdict last epoch all c q → o ≡ q
       verdict_once c Committed Committed h k = refl
       verdict_once c Committed (Changed row f) h k = not_fresh c row h.0 k.0
       verdict_once c Committed (Beaten row id) h k = absurd (h.1 row k.1.has k.1.such)

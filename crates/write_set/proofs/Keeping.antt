@@ -4,12 +4,12 @@ use Rattle.std.proofs.lemmas.Bool.{false≢true}
 use Rattle.geo_base.specs.declared.row_id.RowId.{RowId}
 use Rattle.geo_base.specs.declared.claim.Claim.{Claim}
 use Rattle.geo_base.specs.Claims.{beats}
-use Rattle.geo_base.proofs.Winning.{beats_irreflexive, beats_transitive, beats_total}
+use Rattle.geo_base.specs.laws.Winning.{beats_irreflexive, beats_transitive, beats_total}
 use Rattle.write_set.specs.declared.entrant.Entrant.{Entrant}
 use Rattle.write_set.specs.Sets.{has_row}
 use Rattle.write_set.specs.Merge.{claim_of}
-use Rattle.write_set.specs.Entrants.{placed, takes_row, loses_row, keeps_row, keeper_of, best_of}
-use Rattle.write_set.proofs.Among.{true_or_false, and_true, any_among, any_found}
+use Rattle.write_set.specs.inner.Entrants.{placed, takes_row, loses_row, keeps_row, keeper_of, best_of}
+use Rattle.write_set.specs.laws.Among.{true_or_false, and_true, any_among, any_found}
 
 -- ---- what beats a claim beats the others that don't beat it
 

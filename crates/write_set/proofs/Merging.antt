@@ -15,10 +15,12 @@ use Rattle.write_set.specs.declared.entrant.Entrant.{Entrant}
 use Rattle.write_set.specs.Sets.{ChangeOfRow, has_row}
 use Rattle.write_set.specs.Journal.{Placed, Epochs, AreBatches}
 use Rattle.write_set.specs.Merge.{wins, id_of, is_fresh, contenders, is_beaten_on, winner_of, first_changed, first_beaten, changed_or, beaten_or_committed, verdict_of, committed, last_change, verdicts}
-use Rattle.write_set.specs.Snapshot.{changes_of, overlay}
-use Rattle.write_set.specs.Entrants.{placed, fresh_of, loses_row, keeper_of, first_lost, lost_or_committed, outcome_of, writes_of}
-use Rattle.write_set.proofs.Lookups.{lookup_put}
-use Rattle.write_set.specs.Plain.{Merged, IsMergeOf, last_in, noted}
+use Rattle.write_set.specs.Overlay.{overlay}
+use Rattle.write_set.specs.Snapshot.{changes_of}
+use Rattle.write_set.specs.inner.Entrants.{placed, fresh_of, loses_row, keeper_of, first_lost, lost_or_committed, outcome_of, writes_of}
+use Rattle.write_set.specs.laws.Lookups.{lookup_put}
+use Rattle.write_set.specs.Plain.{Merged, IsMergeOf}
+use Rattle.write_set.specs.inner.LastChanges.{last_in, noted}
 
 -- ---- lists
 

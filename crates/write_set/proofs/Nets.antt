@@ -10,8 +10,8 @@ use Rattle.write_set.specs.declared.change.Change.{Change}
 use Rattle.write_set.specs.declared.row_change.RowChange.{RowChange}
 use Rattle.write_set.specs.Net.{left_by, with_left, net_of, change_in, last_of, IsNet}
 use Rattle.write_set.specs.Sets.{ChangeOfRow, Rises}
-use Rattle.write_set.proofs.Lookups.{lookup_put, lookup_removed}
-use Rattle.write_set.proofs.Rising.{rises_put, rises_removed}
+use Rattle.write_set.specs.laws.Lookups.{lookup_put, lookup_removed}
+use Rattle.write_set.specs.laws.Rising.{rises_put, rises_removed}
 
 rises_left : (row : RowId) (o : Option Change) (set : List ChangeOfRow) → Rises set → Rises (with_left row o set)
 rises_left row None set h = rises_removed (is_at (row_cmp row)) set h

@@ -4,8 +4,7 @@ use Rattle.std.specs.List.Sorted.{IsSearchInRange, IsBinarySearchResult, IsNonDe
 use Rattle.std.specs.Map.{keys_of, lookup, remove_entry}
 use Rattle.std.specs.BTreeMap.{insert_entry, is_at}
 use Rattle.std.specs.List.{insert, remove}
-use Rattle.std.specs.Ordering.{ordering_index, ordering_reverse, is_lt}
-use Rattle.std.specs.declared.cmp.Ordering.{Ordering}
+use Rattle.std.specs.Ordering.{ordering_index, is_lt}
 use Rattle.std.specs.declared.cmp.Ordering.TheVariants.{Less, Equal, Greater}
 use Rattle.std.proofs.Math.ListN.{get_or-map}
 use Rattle.std.proofs.lemmas.Cmp.{alike_right}
@@ -13,13 +12,10 @@ use Rattle.std.proofs.lemmas.List.Sorted.{searchable_from_sorted}
 use Rattle.std.proofs.lemmas.Map.Keys.{Less-from_sorted}
 use Rattle.geo_base.specs.declared.row_id.RowId.{RowId}
 use Rattle.geo_base.specs.Order.{row_cmp}
-use Rattle.geo_base.specs.OrderLaws.{row_cmp_total}
-use Rattle.write_set.specs.Places.{StandsAt, FitsAt}
+use Rattle.geo_base.specs.laws.Orders.{row_cmp_total}
+use Rattle.write_set.specs.inner.Places.{StandsAt, FitsAt}
 use Rattle.write_set.specs.Sets.{Rises}
-
--- what one comparison says of the other way round
-pub turned : (a b : RowId) (o : Ordering) → row_cmp a b ≡ o → row_cmp b a ≡ ordering_reverse o
-turned a b o e = row_cmp_total.antisymm b a ∙ ap ordering_reverse e
+use Rattle.write_set.specs.laws.Rising.{turned}
 
 module _ {X : Type 0} (entries : List (RowId × X)) (rises : Rises entries) where
   -- the row of an entry is less than that of a later one

@@ -1,4 +1,5 @@
--- Which candidates of an epoch commit: pairwise, over the list of them.
+-- Which candidates of an epoch commit, and the last change of a row: pairwise, over the list of candidates. These functions are
+-- the description to believe. Rules says again what has to hold of what they give, and is tied to them by laws.
 use Rattle.std.specs.Prelude.{ℕ, ◌+◌, Bool, true, false, ◌&&◌, not, nat_lt, nat_le, Option, None, Some, unwrap_or, if◌then◌else◌, List, [], ◌∷◌, length, filter, find, map}
 use Rattle.std.specs.List.{list_any, list_all}
 use Rattle.geo_base.specs.declared.row_id.RowId.{RowId}

@@ -1,6 +1,6 @@
 //! The candidates of an epoch, each with its place in it.
 ghost use Rattle.std.specs.Prelude.{◌≡◌, ◌++◌, ◌≤◌, length, map, All, IfOk, OnOk};
-ghost use Rattle.write_set.specs.Entrants.{placed};
+ghost use Rattle.write_set.specs.inner.Entrants.{placed};
 ghost use Rattle.write_set.specs.Journal.{candidates_of, placed_from};
 
 use crate::batch::Batch;
@@ -11,14 +11,17 @@ use std::alloc::Global;
 
 /// A candidate with its region and its commit number.
 #[derive(Clone, Copy, Debug)]
-pub struct Entrant<'a> {
-    pub region: RegionNo,
-    pub csn: Csn,
-    pub candidate: &'a Candidate,
+pub(crate) struct Entrant<'a> {
+    pub(crate) region: RegionNo,
+    pub(crate) csn: Csn,
+    pub(crate) candidate: &'a Candidate,
 }
 
 /// The candidates of the batches, by region and then commit number.
-pub fn entrants<'a>(alloc: Global, batches: &'a [Batch]) -> Result<Vec<Entrant<'a>>, NoMemory>
+pub(crate) fn entrants<'a>(
+    alloc: Global,
+    batches: &'a [Batch],
+) -> Result<Vec<Entrant<'a>>, NoMemory>
     requires { All (λ b. length b.items ≤ MAX_CANDIDATES) batches.now }
     ensures { IfOk result (λ all. map placed all.items ≡ candidates_of batches.now) }
 {

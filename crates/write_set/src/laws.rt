@@ -9,7 +9,8 @@ ghost use Rattle.write_set.specs.Net.{IsNet, net_of};
 ghost use Rattle.write_set.specs.declared.row_change.RowChange.{RowChange};
 ghost use Rattle.write_set.specs.Journal.{Journal, Epochs, Placed, IsJournal, batches_at, candidates_of, epochs_of, last_sealed, Extends};
 ghost use Rattle.write_set.specs.Merge.{contenders, id_of, is_beaten_on, last_change, verdict_of, verdicts};
-ghost use Rattle.write_set.specs.Snapshot.{image_in, snap_at, snap_rows};
+ghost use Rattle.write_set.specs.Overlay.{image_in};
+ghost use Rattle.write_set.specs.Snapshot.{snap_at, snap_rows};
 ghost use Rattle.write_set.specs.Isolation.{Commits, IsSnapshotIsolated};
 ghost use Rattle.write_set.specs.Rules.{IsLastChange, IsVerdict};
 

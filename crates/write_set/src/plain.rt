@@ -2,7 +2,7 @@ ghost use Rattle.std.specs.Prelude.{◌≡◌, ℕ, ◌+◌, ◌≤◌, ◌∷�
 ghost use Rattle.std.specs.List.{slice_get};
 ghost use Rattle.std.specs.Option.{option_copied, option_map};
 ghost use Rattle.geo_base.specs.declared.limits.TheConstants.{MAX_REGIONS};
-ghost use Rattle.write_set.specs.Snapshot.{image_in};
+ghost use Rattle.write_set.specs.Overlay.{image_in};
 ghost use Rattle.write_set.specs.Journal.{Epochs, AreBatches, candidates_of};
 ghost use Rattle.write_set.specs.Merge.{verdicts};
 ghost use Rattle.write_set.specs.Plain.{IsMergeOf};

@@ -4,8 +4,10 @@ use geo_base::RowId;
 /// A change that a transaction makes to a row.
 #[derive(Debug, Drop)]
 pub struct RowChange {
+    /// The row.
     pub row: RowId,
     /// Whether the snapshot on which the transaction runs has the row.
     pub before: bool,
+    /// What is done to it.
     pub change: Change,
 }

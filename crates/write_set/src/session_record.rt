@@ -14,6 +14,7 @@ pub struct Record {
     pub last: u32,
     /// The epoch on whose snapshot it ran, from 0.
     pub start: Epoch,
+    /// What it changes.
     pub set: WriteSet,
 }
 

@@ -42,7 +42,7 @@ fn change_size(row: &RowId, change: &Change) -> u64
 }
 
 /// The bytes of the spellings of the changes. The cost is the number of their cells.
-pub fn changes_size(changes: &[(RowId, Change)]) -> u64
+pub(crate) fn changes_size(changes: &[(RowId, Change)]) -> u64
     requires { length changes.now ≤ MAX_SET_ROWS }
     ensures size { result ≡ set_size changes.now }
     ensures few { result ≤ MAX_CHANGE_BYTES * length changes.now }

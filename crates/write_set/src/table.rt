@@ -5,7 +5,7 @@ ghost use Rattle.std.specs.BTreeMap.{insert_entry, is_at};
 ghost use Rattle.std.specs.Option.{option_copied};
 ghost use Rattle.std.specs.Vec.{vec_capacity};
 ghost use Rattle.geo_base.specs.Order.{row_cmp};
-ghost use Rattle.write_set.specs.Places.{StandsAt, FitsAt};
+ghost use Rattle.write_set.specs.inner.Places.{StandsAt, FitsAt};
 ghost use Rattle.write_set.specs.Sets.{Rises};
 
 use geo_base::RowId;
@@ -20,7 +20,7 @@ fn place_of<X>(entries: &[(RowId, X)], row: &RowId) -> Result<usize, usize>
 }
 
 /// What the row's entry holds, if there is one.
-pub fn value_of<'a, X>(entries: &'a [(RowId, X)], row: &RowId) -> Option<&'a X>
+pub(crate) fn value_of<'a, X>(entries: &'a [(RowId, X)], row: &RowId) -> Option<&'a X>
     requires { Rises entries.now }
     ensures { option_copied result ≡ lookup (is_at (row_cmp row.now)) entries.now }
 {
@@ -31,7 +31,7 @@ pub fn value_of<'a, X>(entries: &'a [(RowId, X)], row: &RowId) -> Option<&'a X>
 }
 
 /// Puts the value at the row, where there is room for one more entry.
-pub fn put_value<X: Drop>(entries: &mut Vec<(RowId, X)>, row: RowId, value: X)
+pub(crate) fn put_value<X: Drop>(entries: &mut Vec<(RowId, X)>, row: RowId, value: X)
     requires rising { Rises entries.old.items }
     requires room { vec_len entries.old < vec_capacity entries.old }
     ensures items { entries.new.items ≡ insert_entry row_cmp entries.old.items row value }
@@ -46,7 +46,7 @@ pub fn put_value<X: Drop>(entries: &mut Vec<(RowId, X)>, row: RowId, value: X)
 }
 
 /// Takes the row's entry away, if there is one.
-pub fn remove_value<X: Drop>(entries: &mut Vec<(RowId, X)>, row: &RowId)
+pub(crate) fn remove_value<X: Drop>(entries: &mut Vec<(RowId, X)>, row: &RowId)
     requires rising { Rises entries.old.items }
     ensures items { entries.new.items ≡ remove_entry (is_at (row_cmp row.now)) entries.old.items }
     ensures rising { Rises entries.new.items }

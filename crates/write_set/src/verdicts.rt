@@ -3,8 +3,8 @@ ghost use Rattle.std.specs.Prelude.{◌≡◌, IfOk, map};
 ghost use Rattle.std.specs.Option.{option_copied};
 ghost use Rattle.write_set.specs.Sets.{has_row, Rises};
 ghost use Rattle.write_set.specs.Merge.{wins, is_fresh, first_changed};
-ghost use Rattle.write_set.specs.Entrants.{placed, fresh_of, takes_row, loses_row, is_better, keeper_of, first_lost, lost_or_committed, outcome_of, writes_of};
-ghost use Rattle.write_set.specs.Plain.{last_in};
+ghost use Rattle.write_set.specs.inner.Entrants.{placed, fresh_of, takes_row, loses_row, is_better, keeper_of, first_lost, lost_or_committed, outcome_of, writes_of};
+ghost use Rattle.write_set.specs.inner.LastChanges.{last_in};
 
 use crate::change::Change;
 use crate::entrant::Entrant;
@@ -72,7 +72,7 @@ fn first_changed<'a>(changes: &[(RowId, Epoch)], c: &Entrant<'a>) -> Option<&'a 
 }
 
 /// The fresh ones of the candidates.
-pub fn fresh_ones<'a>(
+pub(crate) fn fresh_ones<'a>(
     alloc: Global,
     changes: &[(RowId, Epoch)],
     all: &[Entrant<'a>],
@@ -179,13 +179,13 @@ fn outcome_of(
 
 /// What becomes of an epoch's candidates, in order, and copies of the changes of those that commit.
 #[derive(Debug, Drop)]
-pub struct Judgement {
-    pub outcomes: Vec<Outcome>,
-    pub writes: Vec<(RowId, Change)>,
+pub(crate) struct Judgement {
+    pub(crate) outcomes: Vec<Outcome>,
+    pub(crate) writes: Vec<(RowId, Change)>,
 }
 
 /// Judges the candidates of an epoch.
-pub fn judge(
+pub(crate) fn judge(
     alloc: Global,
     changes: &[(RowId, Epoch)],
     epoch: Epoch,

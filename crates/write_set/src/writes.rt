@@ -2,8 +2,8 @@
 ghost use Rattle.std.specs.Prelude.{◌≡◌, ◌+◌, ◌<◌, ◌≤◌, IfOk, length, vec_len};
 ghost use Rattle.std.specs.Map.{keys_of};
 ghost use Rattle.std.specs.Vec.{vec_capacity};
-ghost use Rattle.write_set.specs.Snapshot.{changed, overlay};
-ghost use Rattle.write_set.specs.Plain.{noted};
+ghost use Rattle.write_set.specs.Overlay.{changed, overlay};
+ghost use Rattle.write_set.specs.inner.LastChanges.{noted};
 ghost use Rattle.write_set.specs.Sets.{Rises};
 
 use crate::change::Change;
@@ -12,7 +12,7 @@ use geo_base::{Duplicate, Epoch, NoMemory, RowId, RowImage};
 use std::alloc::Global;
 
 /// Makes the changes, one after another, where there is room for a new row for each.
-pub fn make_changes(rows: &mut Vec<(RowId, RowImage)>, writes: Vec<(RowId, Change)>)
+pub(crate) fn make_changes(rows: &mut Vec<(RowId, RowImage)>, writes: Vec<(RowId, Change)>)
     requires rising { Rises rows.old.items }
     requires room { vec_len rows.old + length writes.items ≤ vec_capacity rows.old }
     ensures items { rows.new.items ≡ overlay rows.old.items writes.items }
@@ -38,7 +38,7 @@ fn make_change(rows: &mut Vec<(RowId, RowImage)>, row: RowId, change: Change)
 }
 
 /// Copies of the rows of the changes.
-pub fn rows_of(alloc: Global, writes: &[(RowId, Change)]) -> Result<Vec<RowId>, NoMemory>
+pub(crate) fn rows_of(alloc: Global, writes: &[(RowId, Change)]) -> Result<Vec<RowId>, NoMemory>
     ensures { IfOk result (λ rows. rows.items ≡ keys_of writes.now) }
 {
     let mut rows = Vec::with_capacity(alloc, writes.len())?;
@@ -49,7 +49,7 @@ pub fn rows_of(alloc: Global, writes: &[(RowId, Change)]) -> Result<Vec<RowId>, 
 }
 
 /// Puts the epoch at each of the rows, where there is room for a new entry for each.
-pub fn note_changes(changes: &mut Vec<(RowId, Epoch)>, rows: Vec<RowId>, epoch: Epoch)
+pub(crate) fn note_changes(changes: &mut Vec<(RowId, Epoch)>, rows: Vec<RowId>, epoch: Epoch)
     requires rising { Rises changes.old.items }
     requires room { vec_len changes.old + length rows.items ≤ vec_capacity changes.old }
     ensures items { changes.new.items ≡ noted epoch changes.old.items rows.items }

@@ -1,5 +1,5 @@
 use Rattle.std.proofs.Common.{◌≡◌, ◌++◌, map, take}
-use Rattle.write_set.specs.Entrants.{placed}
+use Rattle.write_set.specs.inner.Entrants.{placed}
 use Rattle.write_set.specs.Journal.{placed_from}
 use Rattle.write_set.proofs.entrant.enter.Given as goal
 

@@ -1,4 +1,4 @@
-use Rattle.write_set.proofs.Isolating.{is_isolated}
+use Rattle.write_set.specs.laws.Isolating.{is_isolated}
 use Rattle.write_set.proofs.laws.journals_are_isolated.Goals as goal
 
 pub returns : goal.returns

@@ -1,7 +1,7 @@
 use Rattle.std.proofs.Common.{ap, ◌+◌}
 use Rattle.geo_base.specs.declared.numbers.CandId.{CandId}
 use Rattle.write_set.specs.Journal.{batches_at}
-use Rattle.write_set.proofs.Placing.{batches_rise, candidates_same}
+use Rattle.write_set.specs.laws.Placing.{batches_rise, candidates_same}
 use Rattle.write_set.proofs.laws.names_are_of_one_candidate.Goals as goal
 
 pub returns : goal.returns

@@ -1,4 +1,4 @@
-use Rattle.write_set.proofs.Tables.{rises_snap, image_snap}
+use Rattle.write_set.specs.laws.Tables.{rises_snap, image_snap}
 use Rattle.write_set.proofs.laws.rows_are_the_snapshot.Goals as goal
 
 pub returns-clause-rising : goal.returns-clause-rising

@@ -1,7 +1,7 @@
 use Rattle.std.proofs.Common.{ap}
 use Rattle.write_set.specs.Merge.{verdicts}
 use Rattle.write_set.specs.Snapshot.{snap_at, snap_rows}
-use Rattle.write_set.proofs.Sealing.{epochs_stay, sealed_grows}
+use Rattle.write_set.specs.laws.Sealing.{epochs_stay, sealed_grows}
 use Rattle.write_set.proofs.laws.sealed_epochs_stay.Goals as goal
 
 pub returns-clause-epochs : goal.returns-clause-epochs

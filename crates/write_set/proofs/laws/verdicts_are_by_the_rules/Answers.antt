@@ -1,5 +1,5 @@
 use Rattle.write_set.proofs.Deciding.{verdict_is}
-use Rattle.write_set.proofs.Placing.{batches_rise, candidates_lawful}
+use Rattle.write_set.specs.laws.Placing.{batches_rise, candidates_lawful}
 use Rattle.write_set.specs.Journal.{batches_at}
 use Rattle.write_set.proofs.laws.verdicts_are_by_the_rules.Goals as goal
 use Rattle.std.proofs.Common.{◌+◌}

@@ -1,4 +1,4 @@
-use Rattle.write_set.proofs.Rivals.{beaten_winner}
+use Rattle.write_set.proofs.Winners.{beaten_winner}
 use Rattle.write_set.proofs.laws.winner_is_unbeaten.Goals as goal
 
 pub returns : goal.returns

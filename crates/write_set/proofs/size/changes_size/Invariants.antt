@@ -1,4 +1,5 @@
 use Rattle.std.proofs.Common.{◌≡◌, ◌≤◌, ◌+◌, ◌*◌, drop, sum_by}
+use Rattle.write_set.specs.declared.limits.TheConstants.{MAX_CHANGE_BYTES}
 use Rattle.write_set.specs.Sizes.{change_size}
 use Rattle.write_set.proofs.size.changes_size.Given as goal
 
@@ -6,5 +7,5 @@ use Rattle.write_set.proofs.size.changes_size.Given as goal
 abbrev pub invariant-loop-row : goal.invariant-loop-row
 invariant-loop-row l = record {
   size : l.size + sum_by change_size (drop l.row-index l.changes) ≡ sum_by change_size l.changes;
-  few : l.size ≤ 32866 * l.row-index;
+  few : l.size ≤ MAX_CHANGE_BYTES * l.row-index;
 }

@@ -1,7 +1,7 @@
 use Rattle.std.proofs.Common.{subst, ap, ◌∙◌, set, sym}
 use Rattle.write_set.specs.Sets.{Rises}
-use Rattle.write_set.proofs.Rising.{rises_put}
-use Rattle.write_set.specs.Places.{StandsAt, FitsAt}
+use Rattle.write_set.specs.laws.Rising.{rises_put}
+use Rattle.write_set.specs.inner.Places.{StandsAt, FitsAt}
 use Rattle.write_set.proofs.Places.{put_here, put_new}
 use Rattle.write_set.proofs.table.put_value.Goals as goal
 

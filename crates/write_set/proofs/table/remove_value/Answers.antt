@@ -1,7 +1,7 @@
 use Rattle.std.proofs.Common.{subst, ◌∙◌, sym}
 use Rattle.write_set.specs.Sets.{Rises}
-use Rattle.write_set.proofs.Rising.{rises_removed}
-use Rattle.write_set.specs.Places.{StandsAt, FitsAt}
+use Rattle.write_set.specs.laws.Rising.{rises_removed}
+use Rattle.write_set.specs.inner.Places.{StandsAt, FitsAt}
 use Rattle.write_set.proofs.Places.{removed_here, removed_absent, lookup_absent}
 use Rattle.write_set.proofs.table.remove_value.Goals as goal
 

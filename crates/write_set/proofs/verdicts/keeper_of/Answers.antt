@@ -1,7 +1,7 @@
 use Rattle.std.proofs.Common.{sym, ap, ◌∙◌}
 use Rattle.std.specs.Option.{option_copied}
 use Rattle.std.proofs.lemmas.List.{drop_all}
-use Rattle.write_set.specs.Entrants.{best_of}
+use Rattle.write_set.specs.inner.Entrants.{best_of}
 use Rattle.write_set.proofs.Keeping.{best_keeps}
 use Rattle.write_set.proofs.verdicts.keeper_of.Goals as goal
 

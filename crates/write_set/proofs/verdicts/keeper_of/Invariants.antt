@@ -1,6 +1,6 @@
 use Rattle.std.proofs.Common.{◌≡◌, None, drop}
 use Rattle.std.specs.Option.{option_copied}
-use Rattle.write_set.specs.Entrants.{best_of}
+use Rattle.write_set.specs.inner.Entrants.{best_of}
 use Rattle.write_set.proofs.verdicts.keeper_of.Given as goal
 
 -- with the candidates that follow, the best so far ends at the best of all

@@ -1,7 +1,7 @@
 use Rattle.std.proofs.Common.{◌≡◌, ◌+◌, ◌≤◌, length, vec_len}
 use Rattle.std.specs.Vec.{vec_capacity}
 use Rattle.std.specs.Vec.Iter.{into_iter_items}
-use Rattle.write_set.specs.Plain.{noted}
+use Rattle.write_set.specs.inner.LastChanges.{noted}
 use Rattle.write_set.specs.Sets.{Rises}
 use Rattle.write_set.proofs.writes.note_changes.Given as goal
 

@@ -1,9 +1,10 @@
 use Rattle.std.proofs.Common.{◌≡◌, ◌+◌, map, sym, ap, subst, ◌∙◌, arith}
 use Rattle.std.specs.Map.{keys_of}
 use Rattle.write_set.specs.Journal.{candidates_of}
-use Rattle.write_set.specs.Snapshot.{overlay}
-use Rattle.write_set.specs.Entrants.{placed, fresh_of, outcome_of, writes_of}
-use Rattle.write_set.specs.Plain.{Merged, IsMergeOf, last_in, noted}
+use Rattle.write_set.specs.Overlay.{overlay}
+use Rattle.write_set.specs.inner.Entrants.{placed, fresh_of, outcome_of, writes_of}
+use Rattle.write_set.specs.Plain.{Merged, IsMergeOf}
+use Rattle.write_set.specs.inner.LastChanges.{last_in, noted}
 use Rattle.write_set.proofs.Merging.{few_candidates, verdicts_are, merged}
 use Rattle.write_set.proofs.plain.Plain.step.Goals as goal
 

@@ -1,4 +1,4 @@
-use Rattle.write_set.proofs.Rising.{one_change}
+use Rattle.write_set.specs.laws.Rising.{one_change}
 use Rattle.write_set.proofs.set.WriteSet.one.Goals as goal
 
 pub invariant_of-result : goal.invariant_of-result

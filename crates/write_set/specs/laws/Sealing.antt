@@ -1,4 +1,4 @@
--- What all regions have sealed: the batches of a place, and that they stay when journals grow.
+-- Laws: the batches of a place that all regions have sealed, and that they stay when journals grow.
 use Rattle.std.proofs.Common.{◌≡◌, ◌⊎◌, inl, inr, ⊎_elim, ℕ, zero, suc, ◌+◌, ◌<◌, ◌≤◌, Some, List, [], ◌∷◌, ◌++◌, length, slice_set, refl, sym, ap, ◌∙◌, subst, subst₂, append-nil, length-append, length-set, arith}
 use Rattle.geo_base.specs.declared.limits.TheConstants.{MAX_REGIONS}
 use Rattle.std.specs.List.{slice_get, cons_option}
@@ -6,12 +6,12 @@ use Rattle.write_set.specs.declared.batch.Batch.{Batch}
 use Rattle.write_set.specs.Journal.{Journal, log_of, batch_at, last_sealed, batches_at, candidates_of, epochs_of, IsBatch, AreBatches, IsJournal, IsFront, Extends}
 
 -- each list is longer than the place
-abbrev pub Reach : ℕ → Journal → Type 0
+abbrev Reach : ℕ → Journal → Type 0
 Reach place journal = (region : ℕ) → region < length journal → place < length (log_of journal region)
 
 -- ---- what the epochs up to the last sealed one need
 
-pub sealed_reach : (journal : Journal) (place : ℕ) → place < last_sealed journal → Reach place journal
+sealed_reach : (journal : Journal) (place : ℕ) → place < last_sealed journal → Reach place journal
 sealed_reach [] place h region within = absurd (omega arith)
 sealed_reach (log ∷ []) place h zero within = h
 sealed_reach (log ∷ []) place h (suc region) within = absurd (omega arith)
@@ -29,7 +29,7 @@ batches_cons : (log : List Batch) (logs : Journal) (place : ℕ) (b : Batch) →
     batches_at (log ∷ logs) place ≡ b ∷ batches_at logs place
 batches_cons log logs place b e = ap (λ o. cons_option o (batches_at logs place)) e
 
-pub batches_length_reach : (journal : Journal) (place : ℕ) → Reach place journal → length (batches_at journal place) ≡ length journal
+batches_length_reach : (journal : Journal) (place : ℕ) → Reach place journal → length (batches_at journal place) ≡ length journal
 batches_length_reach [] place reach = refl
 batches_length_reach (log ∷ logs) place reach =
     let found = get_within log place (reach zero (omega arith)) in
@@ -63,7 +63,7 @@ batches_lawful journal place lawful h =
 -- ---- growing journals
 
 -- what stands at a place of a list stays when the list grows at its end
-pub get_front : {X : Type 0} (front rest : List X) (place : ℕ) (x : X) → slice_get front place ≡ Some x → slice_get (front ++ rest) place ≡ Some x
+get_front : {X : Type 0} (front rest : List X) (place : ℕ) (x : X) → slice_get front place ≡ Some x → slice_get (front ++ rest) place ≡ Some x
 get_front [] rest place x e = cc
 get_front (y ∷ front) rest zero x e = e
 get_front (y ∷ front) rest (suc place) x e = get_front front rest place x e
@@ -88,7 +88,7 @@ batches_same (log ∷ logs) (wider ∷ widers) place same reach keeps =
     ∙ ap (λ bs. found.0 ∷ bs) rest
     ∙ sym (batches_cons log logs place found.0 found.1)
 
-pub batches_stay : (older newer : Journal) (place : ℕ) → Extends older newer → place < last_sealed older →
+batches_stay : (older newer : Journal) (place : ℕ) → Extends older newer → place < last_sealed older →
     batches_at newer place ≡ batches_at older place
 batches_stay older newer place grows h =
     batches_same older newer place grows.same (sealed_reach older place h) (λ region b. batch_stays older newer region place b grows)
@@ -174,7 +174,7 @@ push_cases (c ∷ bs) batch b zero e = inl e
 push_cases (c ∷ bs) batch b (suc place) e = ⊎_elim inl (λ r. inr (ap suc r.0, r.1)) (push_cases bs batch b place e)
 
 -- a batch of the longer journal is an old one or the new one
-pub with_batch_cases : (journal : Journal) (to region place : ℕ) (batch b : Batch) →
+with_batch_cases : (journal : Journal) (to region place : ℕ) (batch b : Batch) →
     batch_at (slice_set journal to (log_of journal to ++ batch ∷ [])) region place ≡ Some b →
     (batch_at journal region place ≡ Some b) ⊎ ((region ≡ to) × (place ≡ length (log_of journal to)) × (b ≡ batch))
 with_batch_cases [] to region place batch b e = inl e

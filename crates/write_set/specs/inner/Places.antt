@@ -1,4 +1,4 @@
--- Where a row stands among entries that rise by row.
+-- Inner: where a row stands among entries that rise by row.
 use Rattle.std.specs.Prelude.{◌≡◌, ℕ, ◌<◌, ◌≤◌, List, length, slice_index_or}
 use Rattle.std.specs.declared.cmp.Ordering.TheVariants.{Less, Equal, Greater}
 use Rattle.geo_base.specs.declared.row_id.RowId.{RowId}

@@ -1,4 +1,4 @@
--- The candidates of an epoch: each stands once, and each is lawful.
+-- Laws: the candidates of an epoch stand once each, and each is lawful.
 use Rattle.std.proofs.Common.{◌≡◌, true, ⊎_elim, ℕ, zero, suc, ◌+◌, ◌<◌, ◌≤◌, Option, None, Some, List, [], ◌∷◌, length, All, Contains, refl, sym, ap, ◌∙◌, subst, arith}
 use Rattle.std.specs.List.{slice_get, cons_option}
 use Rattle.std.proofs.lemmas.List.Elements.{All-head, All-tail, Contains-append_cases}
@@ -10,8 +10,8 @@ use Rattle.write_set.specs.declared.batch.Batch.{Batch}
 use Rattle.write_set.specs.Sets.{has_row, IsWriteSet}
 use Rattle.write_set.specs.Journal.{Journal, Placed, placed_from, candidates_of, batch_at, batches_at, epochs_of, IsCandidate, IsBatch, IsJournal}
 use Rattle.write_set.specs.Merge.{claim_of, committed, last_change, verdict_of, is_committed}
-use Rattle.write_set.proofs.Among.{among_none, among_cases, filtered_among}
-use Rattle.write_set.proofs.Rivals.{committed_claim}
+use Rattle.write_set.specs.laws.Among.{among_none, among_cases, filtered_among}
+use Rattle.write_set.specs.laws.Rivals.{committed_claim}
 
 -- a candidate of the epoch, as it stands in its place
 pub record IsPlaced (epoch : ℕ) (c : Placed) : Type 0 where
@@ -149,7 +149,7 @@ length_epochs journal zero = refl
 length_epochs journal (suc epoch) = ap suc (length_epochs journal epoch)
 
 -- a candidate that commits is one of its epoch
-pub committed_among : (journal : Journal) (place : ℕ) (c : Placed) → Contains (committed (epochs_of journal (suc place))) c →
+committed_among : (journal : Journal) (place : ℕ) (c : Placed) → Contains (committed (epochs_of journal (suc place))) c →
     Contains (candidates_of (batches_at journal place)) c
 committed_among journal place c h =
     let older = epochs_of journal place in

@@ -1,5 +1,5 @@
--- What tests, filters and searches of a list say of the elements that are in it.
-use Rattle.std.proofs.Common.{◌≡◌, ◌⊎◌, inl, inr, ⊎_elim, ℕ, ◌<◌, zero, suc, Bool, true, false, cond, ◌||◌, ◌&&◌, Option, None, Some, List, [], ◌∷◌, length, get_or, Contains, filter, find, refl, sym, ap, ◌∙◌, subst, arith}
+-- Laws: what tests, filters and searches of a list say of the elements that are in it.
+use Rattle.std.proofs.Common.{◌≡◌, ◌⊎◌, inl, inr, ⊎_elim, ℕ, ◌<◌, zero, suc, Bool, true, false, cond, ◌||◌, ◌&&◌, None, Some, List, [], ◌∷◌, length, get_or, Contains, filter, find, refl, sym, ap, ◌∙◌, subst, arith}
 use Rattle.std.specs.List.{list_any, list_all}
 use Rattle.std.proofs.lemmas.Bool.{false≢true}
 
@@ -59,12 +59,6 @@ module _ {X : Type 0} where
       by true is e rest = (y, among_first y ys, is)
       by false is e rest = let found = rest e in (found.0, among_later y found.0 ys found.1, found.2)
 
-  pub none_passes : (test : X → Bool) (xs : List X) → ((x : X) → Contains xs x → test x ≡ false) → list_any test xs ≡ false
-  none_passes test xs h =
-      ⊎_elim
-      (λ t. let found = any_found test xs t in absurd (false≢true (sym (h found.0 found.1) ∙ found.2)))
-      (λ f. f) (true_or_false (list_any test xs))
-
   pub all_among : (test : X → Bool) (xs : List X) (x : X) → list_all test xs ≡ true → Contains xs x → test x ≡ true
   all_among test [] x e h = absurd (among_none x h)
   all_among test (y ∷ ys) x e h =
@@ -104,17 +98,6 @@ module _ {X : Type 0} where
 
   -- ---- searches
 
-  pub found_among : (test : X → Bool) (xs : List X) (x : X) → find test xs ≡ Some x → Contains xs x × (test x ≡ true)
-  found_among test [] x e = cc
-  found_among test (y ∷ ys) x e = by (test y) refl e (found_among test ys x)
-    where
-      by : (b : Bool) → test y ≡ b → cond b (Some y) (find test ys) ≡ Some x → (find test ys ≡ Some x → Contains ys x × (test x ≡ true)) →
-          Contains (y ∷ ys) x × (test x ≡ true)
-      by true is found rest =
-          let same : y ≡ x = cc in
-          (subst (Contains (y ∷ ys)) same (among_first y ys), ap test (sym same) ∙ is)
-      by false is found rest = let later = rest found in (among_later y x ys later.0, later.1)
-
   pub none_found : (test : X → Bool) (xs : List X) (x : X) → find test xs ≡ None → Contains xs x → test x ≡ false
   none_found test [] x e h = absurd (among_none x h)
   none_found test (y ∷ ys) x e h = by (test y) refl e (none_found test ys x)
@@ -122,10 +105,3 @@ module _ {X : Type 0} where
       by : (b : Bool) → test y ≡ b → cond b (Some y) (find test ys) ≡ None → (find test ys ≡ None → Contains ys x → test x ≡ false) → test x ≡ false
       by true is found rest = cc
       by false is found rest = ⊎_elim (λ same. ap test (sym same) ∙ is) (rest found) (among_cases y ys x h)
-
-  pub finds : (test : X → Bool) (xs : List X) (x : X) → Contains xs x → test x ≡ true → (y : X) × (find test xs ≡ Some y)
-  finds test xs x h e = by (find test xs) refl
-    where
-      by : (o : Option X) → find test xs ≡ o → (y : X) × (find test xs ≡ Some y)
-      by None is = absurd (false≢true (sym (none_found test xs x is h) ∙ e))
-      by (Some y) is = (y, is)

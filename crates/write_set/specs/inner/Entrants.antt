@@ -1,5 +1,5 @@
--- What the plain merge makes of an epoch's candidates, and the verdicts said over the fresh ones alone. These are the words
--- of the program's inner functions: proofs/Merging shows that they give the verdicts of Merge.
+-- Inner: what the plain merge makes of an epoch's candidates, and the verdicts said over the fresh ones alone, which are those of
+-- Merge.
 use Rattle.std.specs.Prelude.{ℕ, Bool, not, ◌&&◌, Option, None, Some, unwrap_or, if◌then◌else◌, List, [], ◌∷◌, filter, find}
 use Rattle.std.specs.List.{list_any}
 use Rattle.std.specs.Option.{option_map}

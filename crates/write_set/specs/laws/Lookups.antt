@@ -1,4 +1,4 @@
--- What a look-up finds among entries after one is put in or taken away.
+-- Laws: what a look-up finds among entries after one is put in or taken away.
 use Rattle.std.proofs.Common.{◌≡◌, Bool, true, false, cond, Option, None, Some, List, [], ◌∷◌, refl, sym, ap, ◌∙◌}
 use Rattle.std.specs.Map.{keys_of, lookup, remove_entry}
 use Rattle.std.specs.BTreeMap.{insert_entry, is_at}
@@ -10,7 +10,7 @@ use Rattle.std.proofs.lemmas.Map.{lookup-remove_entry}
 use Rattle.std.proofs.lemmas.Map.Keys.{IsDistinct-from_sorted}
 use Rattle.geo_base.specs.declared.row_id.RowId.{RowId}
 use Rattle.geo_base.specs.Order.{row_cmp, row_eq}
-use Rattle.geo_base.specs.OrderLaws.{row_cmp_total, row_eq_ties}
+use Rattle.geo_base.specs.laws.Orders.{row_cmp_total, row_eq_ties}
 use Rattle.write_set.specs.Sets.{Rises}
 
 is_Equal : (o : Ordering) → is_eq o ≡ true → o ≡ Equal

@@ -1,4 +1,4 @@
--- The rows after some epochs, as a list and as a function of the row.
+-- Laws: the rows after some epochs, as a list and as a function of the row.
 use Rattle.std.proofs.Common.{◌≡◌, cond, List, [], ◌∷◌, refl, ap, ◌∙◌}
 use Rattle.std.specs.List.Sorted.{IsStrictlySortedBy}
 use Rattle.std.specs.BTreeMap.{is_at}
@@ -8,17 +8,18 @@ use Rattle.write_set.specs.declared.change.Change.TheVariants.{Put, Remove}
 use Rattle.write_set.specs.Sets.{ChangeOfRow, Rises}
 use Rattle.write_set.specs.Journal.{Epochs}
 use Rattle.write_set.specs.Merge.{committed}
-use Rattle.write_set.proofs.Lookups.{lookup_put, lookup_removed}
-use Rattle.write_set.proofs.Rising.{rises_put, rises_removed}
-use Rattle.write_set.specs.Snapshot.{changes_of, image_of, image_after, snap_at, Table, image_in, changed, overlay, snap_rows}
+use Rattle.write_set.specs.laws.Lookups.{lookup_put, lookup_removed}
+use Rattle.write_set.specs.laws.Rising.{rises_put, rises_removed}
+use Rattle.write_set.specs.Overlay.{Table, image_in, changed, overlay}
+use Rattle.write_set.specs.Snapshot.{changes_of, image_of, image_after, snap_at, snap_rows}
 
 -- ---- a change keeps the order of the rows
 
-pub rises_changed : (p : ChangeOfRow) (rows : Table) → Rises rows → Rises (changed p rows)
+rises_changed : (p : ChangeOfRow) (rows : Table) → Rises rows → Rises (changed p rows)
 rises_changed (row, Put image) rows h = rises_put row image rows h
 rises_changed (row, Remove) rows h = rises_removed (is_at (row_cmp row)) rows h
 
-pub rises_overlay : (rows : Table) (ps : List ChangeOfRow) → Rises rows → Rises (overlay rows ps)
+rises_overlay : (rows : Table) (ps : List ChangeOfRow) → Rises rows → Rises (overlay rows ps)
 rises_overlay rows [] h = h
 rises_overlay rows (p ∷ ps) h = rises_overlay (changed p rows) ps (rises_changed p rows h)
 

@@ -1,4 +1,4 @@
--- The transactions that commit are a snapshot-isolated history.
+-- Laws: the transactions that commit are a snapshot-isolated history.
 use Rattle.std.proofs.Common.{◌≡◌, inl, inr, ⊎_elim, ℕ, zero, suc, ◌+◌, ◌<◌, ◌≤◌, Bool, true, false, cond, ◌||◌, Option, List, [], ◌∷◌, ◌++◌, length, Contains, refl, sym, ap, ◌∙◌, subst, arith}
 use Rattle.std.specs.List.{list_any}
 use Rattle.std.specs.List.Sorted.{IsStrictlySortedBy}
@@ -8,16 +8,16 @@ use Rattle.std.proofs.lemmas.Bool.{false≢true, cases_lt}
 use Rattle.geo_base.specs.declared.row_id.RowId.{RowId}
 use Rattle.geo_base.specs.declared.row_image.RowImage.{RowImage}
 use Rattle.geo_base.specs.Order.{row_cmp, row_eq}
-use Rattle.geo_base.specs.OrderLaws.{row_cmp_total, row_eq_ties, row_eq_equiv}
+use Rattle.geo_base.specs.laws.Orders.{row_cmp_total, row_eq_ties, row_eq_equiv}
 use Rattle.write_set.specs.declared.change.Change.{Change}
 use Rattle.write_set.specs.Sets.{ChangeOfRow, has_row, Rises}
 use Rattle.write_set.specs.Journal.{Journal, Placed, candidates_of, batches_at, epochs_of, last_sealed, IsJournal}
 use Rattle.write_set.specs.Merge.{committed, last_change, verdict_of, is_committed}
 use Rattle.write_set.specs.Snapshot.{changes_of, image_of, image_after, snap_at}
 use Rattle.write_set.specs.Isolation.{Commits, AppliesEpoch, AreApart, IsSnapshotIsolated}
-use Rattle.write_set.proofs.Among.{or_false, true_or_false, among_none, among_first, among_later, among_cases, any_among, filtered_among}
-use Rattle.write_set.proofs.Rivals.{fresh_bound, fresh_unchanged, committed_is, row_among}
-use Rattle.write_set.proofs.Placing.{length_epochs, committed_lawful, committed_same}
+use Rattle.write_set.specs.laws.Among.{or_false, true_or_false, among_none, among_first, among_later, among_cases, any_among, filtered_among}
+use Rattle.write_set.specs.laws.Rivals.{fresh_bound, fresh_unchanged, committed_is, row_among}
+use Rattle.write_set.specs.laws.Placing.{length_epochs, committed_lawful, committed_same}
 
 -- ---- one set of changes
 

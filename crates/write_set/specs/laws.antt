@@ -1,0 +1,9 @@
+-- Laws, with their proofs, for the proofs of the crates above.
+pub mod Among
+pub mod Isolating
+pub mod Lookups
+pub mod Placing
+pub mod Rising
+pub mod Rivals
+pub mod Sealing
+pub mod Tables
