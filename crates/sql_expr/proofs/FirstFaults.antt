@@ -1,6 +1,8 @@
 -- An expression has a fault exactly where it is at fault, and that is never want of memory.
 use Rattle.std.proofs.Common.{◌≡◌, ◌≢◌, zero, suc, Bool, true, false, if◌then◌else◌, List, Ok, Err, ◌↔◌, refl, sym, ap, subst, ◌∙◌}
 use Rattle.std.specs.Prelude.{ℤ, pos, negsuc, neg_ℤ, slice_index_or}
+use Rattle.geo_base.specs.Results.{◌>>=◌}
+use Rattle.geo_base.specs.laws.Results.{not_done, fault_is}
 use Rattle.geo_base.specs.declared.cell.Cell.{Cell}
 use Rattle.geo_base.specs.declared.cell.Cell.TheVariants.{Null, Int, Text, Truth}
 use Rattle.sql_expr.specs.declared.expr.Expr.{Expr}
@@ -16,17 +18,10 @@ use Rattle.sql_expr.specs.declared.fault.EvalFault.{EvalFault}
 use Rattle.sql_expr.specs.declared.fault.EvalFault.TheVariants.{Overflow, DivideByZero, NoMemory}
 use Rattle.sql_expr.specs.Faults.{Overflows, HasNoResult, IsFirst, IsSecond, IsAtFault, first, second, calculation, negation, first_of_neg, first_of_not, first_of_arithmetic, first_of_comparison, first_of_and, first_of_or, first_of_null_test, second_of_arithmetic, second_of_comparison, second_of_and, second_of_or}
 use Rattle.sql_expr.specs.Kleene.{not_3, and_3, or_3, truth_in, truth_cell}
-use Rattle.sql_expr.specs.Values.{ValueOrFault, ◌>>=◌, is_i64, number, whole, divides_by_zero, calculated, arithmetic, negated, compared, null_test, both, either, value_of}
+use Rattle.sql_expr.specs.Values.{ValueOrFault, is_i64, number, whole, divides_by_zero, calculated, arithmetic, negated, compared, null_test, both, either, value_of}
 use Rattle.sql_expr.proofs.Levels as levels
 use Rattle.sql_expr.proofs.Levels.{turned}
 use Rattle.sql_expr.proofs.Numbers.{in_i64, out_of_i64}
-
--- a value is no fault
-clash : {P : Type 0} (c : Cell) (f : EvalFault) → (let v : ValueOrFault = Ok c in v ≡ Err f) → P
-clash c f h = cc
-
-same_fault : (e f : EvalFault) → (let v : ValueOrFault = Err e in v ≡ Err f) → e ≡ f
-same_fault e f h = cc
 
 -- ---- steps on numbers
 
@@ -36,8 +31,8 @@ overflows DivideByZero z r = absurd r
 overflows NoMemory z r = absurd r
 
 overflows_by : (f : EvalFault) (z : ℤ) (b : Bool) → is_i64 z ≡ b → (let v : ValueOrFault = if b then Ok (Int z) else Err Overflow in v ≡ Err f) → Overflows f z
-overflows_by f z true q h = clash (Int z) f h
-overflows_by f z false q h = subst (λ (e : EvalFault). Overflows e z) (same_fault Overflow f h) (λ fits. let p : true ≡ false = sym (in_i64 z fits) ∙ q in cc)
+overflows_by f z true q h = not_done (Int z) f h
+overflows_by f z false q h = subst (λ (e : EvalFault). Overflows e z) (fault_is {A = Cell} Overflow f h) (λ fits. let p : true ≡ false = sym (in_i64 z fits) ∙ q in cc)
 
 overflowed : (f : EvalFault) (z : ℤ) → number z ≡ Err f → Overflows f z
 overflowed f z h = overflows_by f z (is_i64 z) refl h
@@ -75,7 +70,7 @@ undivided NoMemory o x y q r = absurd r
 
 no_result_by : (f : EvalFault) (o : Op) (x y : ℤ) (b : Bool) → divides_by_zero o y ≡ b →
     (let v : ValueOrFault = if b then Err DivideByZero else number (whole o x y) in v ≡ Err f) → HasNoResult f o x y
-no_result_by f o x y true q h = subst (λ (e : EvalFault). HasNoResult e o x y) (same_fault DivideByZero f h) (zero_found o y q)
+no_result_by f o x y true q h = subst (λ (e : EvalFault). HasNoResult e o x y) (fault_is {A = Cell} DivideByZero f h) (zero_found o y q)
 no_result_by f o x y false q h = undivided f o x y q (overflowed f (whole o x y) h)
 
 had_no_result : (f : EvalFault) (o : Op) (x y : ℤ) → calculated o x y ≡ Err f → HasNoResult f o x y
@@ -136,23 +131,23 @@ module _ (row : List Cell) where
     told_neg_by : (f : EvalFault) (v : ValueOrFault) → value_of row a ≡ v → (v >>= negated) ≡ Err f → IsAtFault row f (expr.Neg a)
     told_neg_by f (Err e) p h = first a (expr.Neg a) first_of_neg (at_a f (p ∙ h))
     told_neg_by f (Ok (Int x)) p h = negation a x p (overflowed f (neg_ℤ x) h)
-    told_neg_by f (Ok Null) p h = clash Null f h
-    told_neg_by f (Ok (Text x)) p h = clash Null f h
-    told_neg_by f (Ok (Truth x)) p h = clash Null f h
+    told_neg_by f (Ok Null) p h = not_done Null f h
+    told_neg_by f (Ok (Text x)) p h = not_done Null f h
+    told_neg_by f (Ok (Truth x)) p h = not_done Null f h
 
     told_neg : IsTold (expr.Neg a)
     told_neg f h = told_neg_by f (value_of row a) refl (sym (levels.of_neg row a) ∙ h)
 
     told_not_by : (f : EvalFault) (v : ValueOrFault) → value_of row a ≡ v → turned v ≡ Err f → IsAtFault row f (expr.Not a)
     told_not_by f (Err e) p h = first a (expr.Not a) first_of_not (at_a f (p ∙ h))
-    told_not_by f (Ok x) p h = clash (truth_cell (not_3 (truth_in x))) f h
+    told_not_by f (Ok x) p h = not_done (truth_cell (not_3 (truth_in x))) f h
 
     told_not : IsTold (expr.Not a)
     told_not f h = told_not_by f (value_of row a) refl (sym (levels.of_not row a) ∙ h)
 
     told_null_test_by : (is_not : Bool) (f : EvalFault) (v : ValueOrFault) → value_of row a ≡ v → (v >>= λ x. Ok (null_test is_not x)) ≡ Err f → IsAtFault row f (expr.IsNull a is_not)
     told_null_test_by is_not f (Err e) p h = first a (expr.IsNull a is_not) (first_of_null_test is_not) (at_a f (p ∙ h))
-    told_null_test_by is_not f (Ok x) p h = clash (null_test is_not x) f h
+    told_null_test_by is_not f (Ok x) p h = not_done (null_test is_not x) f h
 
     told_null_test : (is_not : Bool) → IsTold (expr.IsNull a is_not)
     told_null_test is_not f h = told_null_test_by is_not f (value_of row a) refl (sym (levels.of_null_test row a is_not) ∙ h)
@@ -162,12 +157,12 @@ module _ (row : List Cell) where
       told_arithmetic_by o f (Err e) w p q h = first a (expr.Arith o a b) (first_of_arithmetic o b) (at_a f (p ∙ h))
       told_arithmetic_by o f (Ok x) (Err e) p q h = second a b (expr.Arith o a b) x p (second_of_arithmetic o) (at_b f (q ∙ h))
       told_arithmetic_by o f (Ok (Int x)) (Ok (Int y)) p q h = calculation o a b x y p q (had_no_result f o x y h)
-      told_arithmetic_by o f (Ok (Int x)) (Ok Null) p q h = clash Null f h
-      told_arithmetic_by o f (Ok (Int x)) (Ok (Text y)) p q h = clash Null f h
-      told_arithmetic_by o f (Ok (Int x)) (Ok (Truth y)) p q h = clash Null f h
-      told_arithmetic_by o f (Ok Null) (Ok y) p q h = clash Null f h
-      told_arithmetic_by o f (Ok (Text x)) (Ok y) p q h = clash Null f h
-      told_arithmetic_by o f (Ok (Truth x)) (Ok y) p q h = clash Null f h
+      told_arithmetic_by o f (Ok (Int x)) (Ok Null) p q h = not_done Null f h
+      told_arithmetic_by o f (Ok (Int x)) (Ok (Text y)) p q h = not_done Null f h
+      told_arithmetic_by o f (Ok (Int x)) (Ok (Truth y)) p q h = not_done Null f h
+      told_arithmetic_by o f (Ok Null) (Ok y) p q h = not_done Null f h
+      told_arithmetic_by o f (Ok (Text x)) (Ok y) p q h = not_done Null f h
+      told_arithmetic_by o f (Ok (Truth x)) (Ok y) p q h = not_done Null f h
 
       told_arithmetic : (o : Op) → IsTold (expr.Arith o a b)
       told_arithmetic o f h = told_arithmetic_by o f (value_of row a) (value_of row b) refl refl (sym (levels.of_arithmetic row o a b) ∙ h)
@@ -175,7 +170,7 @@ module _ (row : List Cell) where
       told_comparison_by : (t : Test) (f : EvalFault) (v w : ValueOrFault) → value_of row a ≡ v → value_of row b ≡ w → (v >>= λ x. w >>= λ y. Ok (compared t x y)) ≡ Err f → IsAtFault row f (expr.Cmp t a b)
       told_comparison_by t f (Err e) w p q h = first a (expr.Cmp t a b) (first_of_comparison t b) (at_a f (p ∙ h))
       told_comparison_by t f (Ok x) (Err e) p q h = second a b (expr.Cmp t a b) x p (second_of_comparison t) (at_b f (q ∙ h))
-      told_comparison_by t f (Ok x) (Ok y) p q h = clash (compared t x y) f h
+      told_comparison_by t f (Ok x) (Ok y) p q h = not_done (compared t x y) f h
 
       told_comparison : (t : Test) → IsTold (expr.Cmp t a b)
       told_comparison t f h = told_comparison_by t f (value_of row a) (value_of row b) refl refl (sym (levels.of_comparison row t a b) ∙ h)
@@ -183,11 +178,11 @@ module _ (row : List Cell) where
       open_and_by : (f : EvalFault) (x : Cell) (w : ValueOrFault) → value_of row a ≡ Ok x → value_of row b ≡ w → x ≢ Truth false →
           (w >>= λ c. Ok (truth_cell (and_3 (truth_in x) (truth_in c)))) ≡ Err f → IsAtFault row f (expr.And a b)
       open_and_by f x (Err e) p q n h = second a b (expr.And a b) x p (second_of_and n) (at_b f (q ∙ h))
-      open_and_by f x (Ok c) p q n h = clash (truth_cell (and_3 (truth_in x) (truth_in c))) f h
+      open_and_by f x (Ok c) p q n h = not_done (truth_cell (and_3 (truth_in x) (truth_in c))) f h
 
       told_and_by : (f : EvalFault) (v : ValueOrFault) → value_of row a ≡ v → both v (value_of row b) ≡ Err f → IsAtFault row f (expr.And a b)
       told_and_by f (Err e) p h = first a (expr.And a b) (first_of_and b) (at_a f (p ∙ h))
-      told_and_by f (Ok (Truth false)) p h = clash (Truth false) f h
+      told_and_by f (Ok (Truth false)) p h = not_done (Truth false) f h
       told_and_by f (Ok (Truth true)) p h = open_and_by f (Truth true) (value_of row b) p refl (λ e. cc) h
       told_and_by f (Ok Null) p h = open_and_by f Null (value_of row b) p refl (λ e. cc) h
       told_and_by f (Ok (Int x)) p h = open_and_by f (Int x) (value_of row b) p refl (λ e. cc) h
@@ -199,11 +194,11 @@ module _ (row : List Cell) where
       open_or_by : (f : EvalFault) (x : Cell) (w : ValueOrFault) → value_of row a ≡ Ok x → value_of row b ≡ w → x ≢ Truth true →
           (w >>= λ c. Ok (truth_cell (or_3 (truth_in x) (truth_in c)))) ≡ Err f → IsAtFault row f (expr.Or a b)
       open_or_by f x (Err e) p q n h = second a b (expr.Or a b) x p (second_of_or n) (at_b f (q ∙ h))
-      open_or_by f x (Ok c) p q n h = clash (truth_cell (or_3 (truth_in x) (truth_in c))) f h
+      open_or_by f x (Ok c) p q n h = not_done (truth_cell (or_3 (truth_in x) (truth_in c))) f h
 
       told_or_by : (f : EvalFault) (v : ValueOrFault) → value_of row a ≡ v → either v (value_of row b) ≡ Err f → IsAtFault row f (expr.Or a b)
       told_or_by f (Err e) p h = first a (expr.Or a b) (first_of_or b) (at_a f (p ∙ h))
-      told_or_by f (Ok (Truth true)) p h = clash (Truth true) f h
+      told_or_by f (Ok (Truth true)) p h = not_done (Truth true) f h
       told_or_by f (Ok (Truth false)) p h = open_or_by f (Truth false) (value_of row b) p refl (λ e. cc) h
       told_or_by f (Ok Null) p h = open_or_by f Null (value_of row b) p refl (λ e. cc) h
       told_or_by f (Ok (Int x)) p h = open_or_by f (Int x) (value_of row b) p refl (λ e. cc) h
@@ -214,8 +209,8 @@ module _ (row : List Cell) where
 
   -- each kind of expression, where its operands are so
   told_level : (z : Expr-F ((e : Expr) × IsTold e)) → IsTold (roll-Expr (map-Expr ((e : Expr) × IsTold e) Expr (λ p. p.0) z))
-  told_level (Expr-F.Lit c) = subst IsTold (sym (rolls-Lit c)) (λ f h. clash c f (sym (levels.of_literal row c) ∙ h))
-  told_level (Expr-F.Col place) = subst IsTold (sym (rolls-Col place)) (λ f h. clash (slice_index_or row place Null) f (sym (levels.of_column row place) ∙ h))
+  told_level (Expr-F.Lit c) = subst IsTold (sym (rolls-Lit c)) (λ f h. not_done c f (sym (levels.of_literal row c) ∙ h))
+  told_level (Expr-F.Col place) = subst IsTold (sym (rolls-Col place)) (λ f h. not_done (slice_index_or row place Null) f (sym (levels.of_column row place) ∙ h))
   told_level (Expr-F.Neg a) = subst IsTold (sym (rolls-Neg a.0)) (told_neg a.0 a.1)
   told_level (Expr-F.Not a) = subst IsTold (sym (rolls-Not a.0)) (told_not a.0 a.1)
   told_level (Expr-F.Arith o a b) = subst IsTold (sym (rolls-Arith o a.0 b.0)) (told_arithmetic a.0 a.1 b.0 b.1 o)

@@ -2,12 +2,13 @@
 use Rattle.std.proofs.Common.{◌≡◌, Bool, true, false, if◌then◌else◌, List, [], ◌∷◌, Result, Ok, Err, ◌↔◌, refl, ap, ◌∙◌}
 use Rattle.std.specs.List.{All}
 use Rattle.std.proofs.lemmas.List.Elements.{All-nil, All-cons, All-head, All-tail}
+use Rattle.geo_base.specs.Results.{◌>>=◌}
 use Rattle.geo_base.specs.declared.cell.Cell.{Cell}
 use Rattle.geo_base.specs.declared.cell.Cell.TheVariants.{Null, Int, Text, Truth}
 use Rattle.sql_expr.specs.declared.expr.Expr.{Expr}
 use Rattle.sql_expr.specs.declared.fault.EvalFault.{EvalFault}
 use Rattle.sql_expr.specs.Conditions.{is_true, kept}
-use Rattle.sql_expr.specs.Values.{ValueOrFault, ◌>>=◌, value_of}
+use Rattle.sql_expr.specs.Values.{ValueOrFault, value_of}
 
 abbrev Kept : Type 0
 Kept = Result Bool EvalFault

@@ -1,6 +1,7 @@
 -- The value or fault of each kind of expression, by those of its operands.
 use Rattle.std.proofs.Common.{◌≡◌, ℕ, Bool, true, false, List, Ok, Err, sym, ap, ◌∙◌}
 use Rattle.std.specs.Prelude.{slice_index_or}
+use Rattle.geo_base.specs.Results.{◌>>=◌}
 use Rattle.geo_base.specs.declared.cell.Cell.{Cell}
 use Rattle.geo_base.specs.declared.cell.Cell.TheVariants as cell
 use Rattle.sql_expr.specs.declared.expr.Expr.{Expr}
@@ -12,7 +13,7 @@ use Rattle.sql_expr.specs.declared.expr.Op.{Op}
 use Rattle.sql_expr.specs.declared.expr.Test.{Test}
 use Rattle.sql_expr.specs.declared.fault.EvalFault.{EvalFault}
 use Rattle.sql_expr.specs.Kleene.{not_3, truth_in, truth_cell}
-use Rattle.sql_expr.specs.Values.{ValueOrFault, ◌>>=◌, arithmetic, negated, compared, null_test, both, either, level_value, value_of}
+use Rattle.sql_expr.specs.Values.{ValueOrFault, arithmetic, negated, compared, null_test, both, either, level_value, value_of}
 
 -- NOT of a value, and a fault as it is
 abbrev pub turned : ValueOrFault → ValueOrFault

@@ -1,6 +1,7 @@
 -- NOT through AND and OR, and NOT twice.
 use Rattle.std.proofs.Common.{◌≡◌, ℕ, Bool, true, false, List, Option, Some, None, Ok, Err, IfOk, refl, sym, ap, ◌∙◌}
 use Rattle.std.specs.Prelude.{ℤ}
+use Rattle.geo_base.specs.Results.{◌>>=◌}
 use Rattle.geo_base.specs.declared.cell.Cell.{Cell}
 use Rattle.geo_base.specs.declared.cell.Cell.TheVariants.{Null, Int, Text, Truth}
 use Rattle.sql_expr.specs.declared.expr.Expr.{Expr}
@@ -10,7 +11,7 @@ use Rattle.sql_expr.specs.declared.value_type.ValueType.TheVariants as type
 use Rattle.sql_expr.specs.Kleene.{not_3, and_3, or_3, truth_in, truth_cell}
 use Rattle.sql_expr.specs.Rows.{HasTypes}
 use Rattle.sql_expr.specs.Types.{type_of, has_type, is_condition}
-use Rattle.sql_expr.specs.Values.{ValueOrFault, ◌>>=◌, both, either, value_of}
+use Rattle.sql_expr.specs.Values.{ValueOrFault, both, either, value_of}
 use Rattle.sql_expr.proofs.Levels.{turned, of_not, of_and, of_or}
 use Rattle.sql_expr.proofs.Typed.{typed}
 

@@ -4,6 +4,7 @@ use Rattle.std.specs.Prelude.{⊤, ℤ, neg_ℤ, slice_get, slice_index_or}
 use Rattle.std.specs.Option.{option_and_then, option_map}
 use Rattle.geo_base.specs.Cells.{is_null}
 use Rattle.geo_base.specs.Order.{cell_cmp}
+use Rattle.geo_base.specs.Results.{◌>>=◌}
 use Rattle.geo_base.specs.declared.cell.Cell.{Cell}
 use Rattle.geo_base.specs.declared.cell.Cell.TheVariants.{Null, Int, Text, Truth}
 use Rattle.sql_expr.specs.declared.expr.Expr.{Expr}
@@ -17,8 +18,8 @@ use Rattle.sql_expr.specs.declared.value_type.ValueType.{ValueType}
 use Rattle.sql_expr.specs.declared.value_type.ValueType.TheVariants as type
 use Rattle.sql_expr.specs.Kleene.{truth_cell, truth_in, and_3, or_3, not_3}
 use Rattle.sql_expr.specs.Rows.{HasTypes}
-use Rattle.sql_expr.specs.Types.{cell_type, has_type, takes, one_operand, two_operands, comparison, of_both, level_type, type_of}
-use Rattle.sql_expr.specs.Values.{ValueOrFault, ◌>>=◌, is_i64, number, whole, divides_by_zero, calculated, arithmetic, negated, holds, compared, null_test, both, either, level_value, value_of}
+use Rattle.sql_expr.specs.Types.{literal_type, has_type, takes, one_operand, two_operands, comparison, of_both, level_type, type_of}
+use Rattle.sql_expr.specs.Values.{ValueOrFault, is_i64, number, whole, divides_by_zero, calculated, arithmetic, negated, holds, compared, null_test, both, either, level_value, value_of}
 
 -- a value is of the type, and a fault of each
 abbrev IsOf : ValueType → ValueOrFault → Type 0
@@ -124,14 +125,20 @@ either_Truth (Ok (Text x)) b = after type.Truth b (λ c. Ok (truth_cell (or_3 No
 
 -- ---- literals and columns
 
-literal_typed : (c : Cell) → has_type (cell_type c) c ≡ true
+literal_typed : (c : Cell) → has_type (literal_type c) c ≡ true
 literal_typed Null = refl
 literal_typed (Int x) = refl
 literal_typed (Text x) = refl
 literal_typed (Truth x) = refl
 
+null_typed : (t : ValueType) → has_type t Null ≡ true
+null_typed type.Int = refl
+null_typed type.Text = refl
+null_typed type.Truth = refl
+null_typed type.Any = refl
+
 cell_typed : (t : ValueType) (row : List Cell) (place : ℕ) → ((c : Cell) → slice_get row place ≡ Some c → has_type t c ≡ true) → has_type t (slice_index_or row place Null) ≡ true
-cell_typed t [] place h = refl
+cell_typed t [] place h = null_typed t
 cell_typed t (c ∷ row) zero h = h c refl
 cell_typed t (c ∷ row) (suc place) h = cell_typed t row place h
 

@@ -1,10 +1,11 @@
 -- Which rows a list of conditions keeps.
 use Rattle.std.specs.Prelude.{Bool, true, false, if◌then◌else◌, List, [], ◌∷◌, Result, Ok}
+use Rattle.geo_base.specs.Results.{◌>>=◌}
 use Rattle.geo_base.specs.declared.cell.Cell.{Cell}
 use Rattle.geo_base.specs.declared.cell.Cell.TheVariants as cell
 use Rattle.sql_expr.specs.declared.expr.Expr.{Expr}
 use Rattle.sql_expr.specs.declared.fault.EvalFault.{EvalFault}
-use Rattle.sql_expr.specs.Values.{value_of, ◌>>=◌}
+use Rattle.sql_expr.specs.Values.{value_of}
 
 -- the cell is true, and neither false nor NULL
 abbrev pub is_true : Cell → Bool

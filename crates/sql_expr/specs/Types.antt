@@ -1,8 +1,12 @@
 -- The types of expressions, level by level: those of the operands, and then what the operator makes of them.
 use Rattle.std.specs.Prelude.{Bool, true, false, ◌&&◌, ◌||◌, if◌then◌else◌, Option, Some, None, List, slice_get}
 use Rattle.std.specs.Option.{option_and_then, option_map}
+use Rattle.geo_base.specs.Cells as cells
+use Rattle.geo_base.specs.Cells.{is_null}
 use Rattle.geo_base.specs.declared.cell.Cell.{Cell}
 use Rattle.geo_base.specs.declared.cell.Cell.TheVariants as cell
+use Rattle.geo_base.specs.declared.cell_type.CellType.{CellType}
+use Rattle.geo_base.specs.declared.cell_type.CellType.TheVariants as kind
 use Rattle.sql_expr.specs.declared.expr.Expr.{Expr}
 use Rattle.sql_expr.specs.declared.expr.Expr.TheOpen.{Expr-F}
 use Rattle.sql_expr.specs.declared.expr.Expr.TheFolds.{fold-Expr}
@@ -10,19 +14,27 @@ use Rattle.sql_expr.specs.declared.value_type.ValueType.{ValueType}
 use Rattle.sql_expr.specs.declared.value_type.ValueType.TheVariants as type
 
 -- the type of a literal
-abbrev pub cell_type : Cell → ValueType
-cell_type cell.Null = type.Any
-cell_type (cell.Int _) = type.Int
-cell_type (cell.Text _) = type.Text
-cell_type (cell.Truth _) = type.Truth
+abbrev pub literal_type : Cell → ValueType
+literal_type cell.Null = type.Any
+literal_type (cell.Int _) = type.Int
+literal_type (cell.Text _) = type.Text
+literal_type (cell.Truth _) = type.Truth
+
+-- the type of the cells that are not NULL; Any has none
+abbrev pub cell_type : ValueType → Option CellType
+cell_type type.Int = Some kind.Int
+cell_type type.Text = Some kind.Text
+cell_type type.Truth = Some kind.Truth
+cell_type type.Any = None
+
+-- the cell is of the type of cells; where there is none, only NULL is
+abbrev pub is_of : Option CellType → Cell → Bool
+is_of (Some t) c = cells.has_type t c
+is_of None c = is_null c
 
 -- the cell is of the type: NULL is of each, and nothing else is of Any
 abbrev pub has_type : ValueType → Cell → Bool
-has_type _ cell.Null = true
-has_type type.Int (cell.Int _) = true
-has_type type.Text (cell.Text _) = true
-has_type type.Truth (cell.Truth _) = true
-has_type _ _ = false
+has_type t c = is_of (cell_type t) c
 
 -- an operand of the second type may stand where the first is wanted: it is that one, or Any
 abbrev pub takes : ValueType → ValueType → Bool
@@ -50,7 +62,7 @@ of_both rule a b = option_and_then (λ x. option_and_then (rule x) b) a
 
 -- one level of an expression, with the types of its operands in their places
 abbrev pub level_type : List ValueType → Expr-F (Option ValueType) → Option ValueType
-level_type columns (Expr-F.Lit literal) = Some (cell_type literal)
+level_type columns (Expr-F.Lit literal) = Some (literal_type literal)
 level_type columns (Expr-F.Col place) = slice_get columns place
 level_type columns (Expr-F.Neg a) = option_and_then (one_operand type.Int) a
 level_type columns (Expr-F.Not a) = option_and_then (one_operand type.Truth) a

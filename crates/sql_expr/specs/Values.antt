@@ -3,11 +3,12 @@
 -- operand that it doesn't take: arithmetic, minus and NOT give NULL for one, a comparison goes by the order of all cells,
 -- and AND and OR hold what is no truth for not known. No expression that has a type asks for that over a row whose cells
 -- are of their columns' types. Want of memory is no expression's fault.
-use Rattle.std.specs.Prelude.{◌≡◌, zero, ◌^◌, ℤ, pos, negsuc, ◌+ℤ◌, ◌-ℤ◌, ◌*ℤ◌, neg_ℤ, int_div, Bool, true, false, not, ◌||◌, nat_lt, if◌then◌else◌, List, Result, Ok, Err, slice_index_or, MatchResult, ◌⊎◌}
+use Rattle.std.specs.Prelude.{zero, ◌^◌, ℤ, pos, negsuc, ◌+ℤ◌, ◌-ℤ◌, ◌*ℤ◌, neg_ℤ, int_div, Bool, true, false, not, ◌||◌, nat_lt, if◌then◌else◌, List, Result, Ok, Err, slice_index_or}
 use Rattle.std.specs.Ordering.{is_eq, is_lt, is_gt}
 use Rattle.std.specs.declared.cmp.Ordering.{Ordering}
 use Rattle.geo_base.specs.Cells.{is_null}
 use Rattle.geo_base.specs.Order.{cell_cmp}
+use Rattle.geo_base.specs.Results.{◌>>=◌}
 use Rattle.geo_base.specs.declared.cell.Cell.{Cell}
 use Rattle.geo_base.specs.declared.cell.Cell.TheVariants as cell
 use Rattle.sql_expr.specs.declared.expr.Expr.{Expr}
@@ -24,11 +25,6 @@ use Rattle.sql_expr.specs.Kleene.{not_3, and_3, or_3, truth_in, truth_cell}
 -- what an expression has over a row: its value, or its fault
 abbrev pub ValueOrFault : Type 0
 ValueOrFault = Result Cell EvalFault
-
-infixl 10 ◌>>=◌
-abbrev pub ◌>>=◌ : {A B : Type 0} → Result A EvalFault → (A → Result B EvalFault) → Result B EvalFault
-(Ok x) >>= f = f x
-(Err e) >>= f = Err e
 
 -- ---- numbers
 
@@ -117,7 +113,3 @@ level_value row (Expr-F.IsNull a is_not) = a >>= λ x. Ok (null_test is_not x)
 -- the value of an expression over a row, or its fault; the row is the cells of the left table, and then those of the right one
 unfoldable pub value_of : List Cell → Expr → ValueOrFault
 value_of row = fold-Expr ValueOrFault (level_value row)
-
--- the answer is this value or this fault, or there was no memory
-abbrev pub Gives : ValueOrFault → ValueOrFault → Type 0
-Gives answer meant = MatchResult answer (λ c. meant ≡ Ok c) (λ e. (e ≡ fault.NoMemory) ⊎ (meant ≡ Err e))

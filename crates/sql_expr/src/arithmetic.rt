@@ -1,7 +1,7 @@
 //! Arithmetic.
 ghost use Rattle.std.specs.Prelude.{◌≡◌, false, neg_ℤ, SomeIff, FitsSigned};
 ghost use Rattle.std.specs.Int.{w64};
-ghost use Rattle.sql_expr.specs.Borrowed.{cell_of, Yields};
+ghost use Rattle.sql_expr.specs.inner.Borrowed.{cell_of, Yields};
 ghost use Rattle.sql_expr.specs.Values as values;
 
 use crate::expr::Op;
@@ -36,7 +36,7 @@ fn calculated<'a>(op: Op, x: i64, y: i64) -> Result<Value<'a>, EvalFault>
 }
 
 /// What an operator makes of two values: NULL, where one of them is no number.
-pub fn arithmetic<'a>(op: Op, a: Value<'a>, b: Value<'a>) -> Result<Value<'a>, EvalFault>
+pub(crate) fn arithmetic<'a>(op: Op, a: Value<'a>, b: Value<'a>) -> Result<Value<'a>, EvalFault>
     ensures { Yields result (values.arithmetic op (cell_of a.entry) (cell_of b.entry)) }
 {
     match (a, b) {
@@ -47,7 +47,7 @@ pub fn arithmetic<'a>(op: Op, a: Value<'a>, b: Value<'a>) -> Result<Value<'a>, E
 
 /// A number with its sign turned, and NULL for what is no number.
 #[tactic(auto, using(crate::proofs::Numbers::in_i64, crate::proofs::Numbers::out_of_i64))]
-pub fn negated<'a>(a: Value<'a>) -> Result<Value<'a>, EvalFault>
+pub(crate) fn negated<'a>(a: Value<'a>) -> Result<Value<'a>, EvalFault>
     ensures { Yields result (values.negated (cell_of a.entry)) }
 {
     let Value::Int(x) = a else {

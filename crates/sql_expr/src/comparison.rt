@@ -1,7 +1,7 @@
 //! Comparisons.
 ghost use Rattle.std.specs.Prelude.{◌≡◌};
 ghost use Rattle.geo_base.specs.Order.{cell_cmp};
-ghost use Rattle.sql_expr.specs.Borrowed.{cell_of};
+ghost use Rattle.sql_expr.specs.inner.Borrowed.{cell_of};
 ghost use Rattle.sql_expr.specs.Values as values;
 
 use crate::expr::Test;
@@ -34,7 +34,7 @@ fn holds(test: Test, order: Ordering) -> bool
 }
 
 /// Whether a test holds of two values: NULL, where one of them is.
-pub fn compared<'a>(test: Test, a: Value<'a>, b: Value<'a>) -> Value<'a>
+pub(crate) fn compared<'a>(test: Test, a: Value<'a>, b: Value<'a>) -> Value<'a>
     ensures { cell_of result ≡ values.compared test (cell_of a.entry) (cell_of b.entry) }
 {
     if is_null(a) || is_null(b) {
@@ -44,7 +44,7 @@ pub fn compared<'a>(test: Test, a: Value<'a>, b: Value<'a>) -> Value<'a>
 }
 
 /// Whether a value is NULL, or with the flag, whether it isn't.
-pub fn null_test<'a>(a: Value<'a>, is_not: bool) -> Value<'a>
+pub(crate) fn null_test<'a>(a: Value<'a>, is_not: bool) -> Value<'a>
     ensures { cell_of result ≡ values.null_test is_not (cell_of a.entry) }
 {
     Value::Truth(is_null(a) != is_not)

@@ -1,7 +1,9 @@
 //! The value of an expression, or its fault.
 ghost use Rattle.std.specs.Prelude.{◌≡◌, ◌++◌};
-ghost use Rattle.sql_expr.specs.Borrowed.{Yields};
-ghost use Rattle.sql_expr.specs.Values.{Gives, value_of};
+ghost use Rattle.geo_base.specs.Results.{Gives};
+ghost use Rattle.sql_expr.specs.declared.fault.EvalFault.TheVariants as fault;
+ghost use Rattle.sql_expr.specs.Values.{value_of};
+ghost use Rattle.sql_expr.specs.inner.Borrowed.{Yields};
 
 use crate::arithmetic::{arithmetic, negated};
 use crate::comparison::{compared, null_test};
@@ -14,7 +16,7 @@ use std::alloc::Global;
 
 /// The value of an expression, with its text borrowed, or its fault. This takes no memory.
 #[tactic(auto, unfolding(crate::specs::Values::value_of))]
-pub fn evaluate<'a>(
+pub(crate) fn evaluate<'a>(
     expr: &'a Expr,
     left: &'a [Cell],
     right: &'a [Cell],
@@ -70,7 +72,7 @@ pub fn evaluate<'a>(
 /// text is copied only where it is the answer. The time is linear in the expression, and the stack goes as
 /// deep as it.
 pub fn eval(alloc: Global, expr: &Expr, left: &[Cell], right: &[Cell]) -> Result<Cell, EvalFault>
-    ensures exact { Gives result (value_of (left.now ++ right.now) expr.now) }
+    ensures exact { Gives fault.NoMemory (λ c. c) result (value_of (left.now ++ right.now) expr.now) }
 {
     let value = evaluate(expr, left, right)?;
     Ok(copy_value(alloc, value)?)

@@ -1,12 +1,12 @@
 //! Truths.
 ghost use Rattle.std.specs.Prelude.{◌≡◌};
-ghost use Rattle.sql_expr.specs.Borrowed.{cell_of};
+ghost use Rattle.sql_expr.specs.inner.Borrowed.{cell_of};
 ghost use Rattle.sql_expr.specs.Kleene.{not_3, and_3, or_3, truth_in, truth_cell};
 
 use crate::value::Value;
 
 /// NOT.
-pub fn negation<'a>(a: Value<'a>) -> Value<'a>
+pub(crate) fn negation<'a>(a: Value<'a>) -> Value<'a>
     ensures { cell_of result ≡ truth_cell (not_3 (truth_in (cell_of a.entry))) }
 {
     match a {
@@ -16,7 +16,7 @@ pub fn negation<'a>(a: Value<'a>) -> Value<'a>
 }
 
 /// AND.
-pub fn conjunction<'a>(a: Value<'a>, b: Value<'a>) -> Value<'a>
+pub(crate) fn conjunction<'a>(a: Value<'a>, b: Value<'a>) -> Value<'a>
     ensures { cell_of result ≡ truth_cell (and_3 (truth_in (cell_of a.entry)) (truth_in (cell_of b.entry))) }
 {
     match (a, b) {
@@ -27,7 +27,7 @@ pub fn conjunction<'a>(a: Value<'a>, b: Value<'a>) -> Value<'a>
 }
 
 /// OR.
-pub fn disjunction<'a>(a: Value<'a>, b: Value<'a>) -> Value<'a>
+pub(crate) fn disjunction<'a>(a: Value<'a>, b: Value<'a>) -> Value<'a>
     ensures { cell_of result ≡ truth_cell (or_3 (truth_in (cell_of a.entry)) (truth_in (cell_of b.entry))) }
 {
     match (a, b) {

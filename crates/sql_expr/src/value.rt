@@ -3,14 +3,14 @@ ghost use Rattle.std.specs.Prelude.{◌≡◌, ◌++◌, IfOk, slice_index_or};
 ghost use Rattle.geo_base.specs.Cells.{is_null};
 ghost use Rattle.geo_base.specs.Order.{kind_of};
 ghost use Rattle.geo_base.specs.declared.cell.Cell.TheVariants.{Null};
-ghost use Rattle.sql_expr.specs.Borrowed.{cell_of};
+ghost use Rattle.sql_expr.specs.inner.Borrowed.{cell_of};
 
 use geo_base::{Cell, Duplicate, NoMemory, Txt};
 use std::alloc::Global;
 
 /// A cell whose text, if it is one, stands in the row or in the expression.
 #[derive(Clone, Copy)]
-pub enum Value<'a> {
+pub(crate) enum Value<'a> {
     Null,
     Int(i64),
     Text(&'a Txt),
@@ -18,7 +18,7 @@ pub enum Value<'a> {
 }
 
 /// The cell's value, with its text borrowed.
-pub fn borrow_cell<'a>(cell: &'a Cell) -> Value<'a>
+pub(crate) fn borrow_cell<'a>(cell: &'a Cell) -> Value<'a>
     ensures { cell_of result ≡ cell.now }
 {
     match cell {
@@ -30,7 +30,7 @@ pub fn borrow_cell<'a>(cell: &'a Cell) -> Value<'a>
 }
 
 /// The cell of a column, numbered through the left cells and then the right ones, and NULL behind them.
-pub fn column<'a>(place: u16, left: &'a [Cell], right: &'a [Cell]) -> Value<'a>
+pub(crate) fn column<'a>(place: u16, left: &'a [Cell], right: &'a [Cell]) -> Value<'a>
     ensures { cell_of result ≡ slice_index_or (left.now ++ right.now) place Null }
 {
     let place = place as usize;
@@ -46,7 +46,7 @@ pub fn column<'a>(place: u16, left: &'a [Cell], right: &'a [Cell]) -> Value<'a>
 }
 
 /// The value as a cell, with a copy of its text.
-pub fn copy_value(alloc: Global, value: Value) -> Result<Cell, NoMemory>
+pub(crate) fn copy_value(alloc: Global, value: Value) -> Result<Cell, NoMemory>
     ensures { IfOk result (λ c. c ≡ cell_of value.entry) }
 {
     match value {
@@ -58,14 +58,14 @@ pub fn copy_value(alloc: Global, value: Value) -> Result<Cell, NoMemory>
 }
 
 /// Whether the value is NULL.
-pub fn is_null(value: Value) -> bool
+pub(crate) fn is_null(value: Value) -> bool
     ensures { result ≡ is_null (cell_of value.entry) }
 {
     matches!(value, Value::Null)
 }
 
 /// The place of the value's kind in the order of cells.
-pub fn kind(value: Value) -> u8
+pub(crate) fn kind(value: Value) -> u8
     ensures { result ≡ kind_of (cell_of value.entry) }
 {
     match value {

@@ -1,4 +1,4 @@
--- Values whose texts are borrowed, as cells.
+-- Inner: values whose texts are borrowed, as cells.
 use Rattle.std.specs.Prelude.{◌≡◌, Result, Ok, Err, MatchResult}
 use Rattle.geo_base.specs.declared.cell.Cell.{Cell}
 use Rattle.geo_base.specs.declared.cell.Cell.TheVariants as cell
