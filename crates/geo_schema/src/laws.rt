@@ -9,7 +9,7 @@ ghost use Rattle.geo_schema.specs.declared.fault.SchemaFault.{SchemaFault};
 ghost use Rattle.geo_schema.specs.declared.fault.SchemaFault.TheVariants as fault;
 ghost use Rattle.geo_schema.specs.declared.index.IndexDef.{IndexDef};
 ghost use Rattle.geo_schema.specs.declared.table.TableDef.{TableDef};
-ghost use Rattle.geo_schema.specs.Rows.{IsRow, IsRowFault};
+ghost use Rattle.geo_schema.specs.Rows.{Suits, IsCause, IsRow, IsRowFault};
 ghost use Rattle.geo_schema.specs.Schemas.{IsSchema, IsSchemaFault, table_at};
 ghost use Rattle.geo_schema.specs.Tables.{ArePlaces, IsTable};
 ghost use Rattle.geo_schema.specs.inner.Rows.{row_fault};
@@ -20,6 +20,13 @@ ghost use Rattle.geo_schema.specs.inner.Schemas.{schema_fault};
 pub fn faultless_cells_are_rows()
     ensures none { (table : TableDef) (cells : List Cell) → (row_fault table cells ≡ None) ↔ IsRow table cells }
     ensures some { (table : TableDef) (cells : List Cell) (why : CellFault) → (row_fault table cells ≡ Some why) ↔ IsRowFault table cells why }
+{}
+
+/// A cell suits its column or there is one thing wrong with it, and never both.
+pub fn a_cell_suits_or_has_one_fault()
+    ensures either { (key : List ℕ) (column : ColumnDef) (place : ℕ) (cell : Cell) → Suits key column place cell ⊎ ((why : CellFault) × IsCause key column place cell why) }
+    ensures suits { (key : List ℕ) (column : ColumnDef) (place : ℕ) (cell : Cell) (why : CellFault) → Suits key column place cell → ¬ IsCause key column place cell why }
+    ensures one { (key : List ℕ) (column : ColumnDef) (place : ℕ) (cell : Cell) (a b : CellFault) → IsCause key column place cell a → IsCause key column place cell b → a ≡ b }
 {}
 
 /// Cells are a row of a table or have one fault, and never both.

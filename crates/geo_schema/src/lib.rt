@@ -2,8 +2,11 @@
 //! ranges of keys that a statement reads.
 //!
 //! A [`Schema`] is made once, from tables that break no limit, and contracts then see it as the list of
-//! them. Its rule is one function of that list, which says what is wrong first; and so is the rule of a
-//! row, which says which column is at fault first and why.
+//! them. What is a table by the rules, a schema and a row is said in `specs/Tables.antt`,
+//! `specs/Schemas.antt` and `specs/Rows.antt`, and so is what is wrong with what is none: a refusal
+//! names the first thing that is wrong, and comes exactly where it is. Each table that a schema gives is
+//! one by the rules. How faults are found stands in `specs/inner`, and laws of the crate say that exactly
+//! the faults that are there are found; `specs/laws` has the lemmas for proofs above.
 #![tactic(auto)]
 
 mod alike;
@@ -21,9 +24,9 @@ pub use column::{ColumnDef, ColumnList, Kind, PlaceList};
 pub use fault::{CellFault, SchemaFault};
 pub use index::{IndexDef, IndexList};
 pub use laws::{
-    cells_are_a_row_or_have_one_fault, faultless_cells_are_rows, faultless_tables_are_schemas,
-    names_are_of_one_table, nothing_stands_twice, tables_are_a_schema_or_have_one_fault,
-    what_stands_twice_is_a_fault,
+    a_cell_suits_or_has_one_fault, cells_are_a_row_or_have_one_fault, faultless_cells_are_rows,
+    faultless_tables_are_schemas, names_are_of_one_table, nothing_stands_twice,
+    tables_are_a_schema_or_have_one_fault, what_stands_twice_is_a_fault,
 };
 pub use range::{CellList, Edge, KeyRange};
 pub use row_rule::{cell_fault, is_in};

@@ -1,8 +1,8 @@
 //! Whether cells are a row of a table, and the key of a row.
-ghost use Rattle.std.specs.Prelude.{◌≡◌, ◌<◌, ◌≤◌, true, length, map, slice_index_or, IfOk};
+ghost use Rattle.std.specs.Prelude.{◌≡◌, ◌<◌, ◌≤◌, true, length, map, slice_index_or, IfOk, MatchOption};
 ghost use Rattle.std.specs.List.{All};
 ghost use Rattle.geo_base.specs.declared.limits.TheConstants.{MAX_COLUMNS};
-ghost use Rattle.geo_schema.specs.Rows.{is_too_long, is_in, IsRow, key_cells};
+ghost use Rattle.geo_schema.specs.Rows.{is_too_long, is_in, Suits, IsCause, IsRow, key_cells};
 ghost use Rattle.geo_schema.specs.Tables.{IsTable};
 ghost use Rattle.geo_schema.specs.inner.Rows.{cell_fault, row_fault};
 
@@ -28,10 +28,19 @@ pub fn is_in(key: &[u8], place: u8) -> bool
     key.iter().any(|p| *p == place)
 }
 
-/// What is wrong with the cell of the column at the place, where the table has that key: its type, else a
-/// NULL where none may be, else its length. Takes a step for each key place.
-#[tactic(auto, unfolding(crate::specs::inner::Rows::cell_fault))]
+/// What is wrong with the cell of the column at the place, where the table has that key: its type, or a
+/// NULL where none may be, or its length. Takes a step for each key place.
+#[tactic(auto, using(crate::specs::laws::Fits::suits, crate::specs::laws::Fits::cause_found))]
 pub fn cell_fault(key: &[u8], column: &ColumnDef, place: u8, cell: &Cell) -> Option<CellFault>
+    ensures { MatchOption result
+        (Suits key.now column.now place cell.now)
+        (λ why. IsCause key.now column.now place cell.now why) }
+{
+    first_cause(key, column, place, cell)
+}
+
+#[tactic(auto, unfolding(crate::specs::inner::Rows::cell_fault))]
+fn first_cause(key: &[u8], column: &ColumnDef, place: u8, cell: &Cell) -> Option<CellFault>
     ensures { result ≡ cell_fault key.now column.now place cell.now }
 {
     if !cell.has_type(column.kind.cell_type()) {
@@ -57,7 +66,7 @@ pub(crate) fn row_fault(table: &TableDef, cells: &[Cell]) -> Option<CellFault>
         return Some(CellFault::WrongCount);
     }
     for (place, cell) in cells.iter().enumerate() {
-        let fault = cell_fault(table.key.items(), &columns[place], place as u8, cell);
+        let fault = first_cause(table.key.items(), &columns[place], place as u8, cell);
         if fault.is_some() {
             return fault;
         }
