@@ -5,8 +5,9 @@ use Rattle.std.proofs.lemmas.Option.{slice_get_read, same_Some}
 use Rattle.geo_base.specs.declared.limits.TheConstants.{SESSIONS_PER_REGION}
 use Rattle.geo_base.specs.declared.numbers.CandId.{CandId}
 use Rattle.geo_base.specs.declared.row_id.RowId.{RowId}
-use Rattle.write_set.specs.Snapshot.{Table, image_in, snap_at}
-use Rattle.write_set.proofs.Tables.{image_snap}
+use Rattle.write_set.specs.Overlay.{Table, image_in}
+use Rattle.write_set.specs.Snapshot.{snap_at}
+use Rattle.write_set.specs.laws.Tables.{image_snap}
 use Rattle.geo_world.specs.declared.event.Statement.{Statement}
 use Rattle.geo_world.specs.declared.event.Statement.TheVariants.{Insert, Select}
 use Rattle.geo_world.specs.declared.world.World.{World as Kept}

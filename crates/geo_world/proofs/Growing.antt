@@ -3,7 +3,7 @@ use Rattle.std.proofs.Common.{◌≡◌, ℕ, suc, ◌+◌, ◌≤◌, List, [],
 use Rattle.std.proofs.lemmas.List.{length_push}
 use Rattle.write_set.specs.declared.batch.Batch.{Batch}
 use Rattle.write_set.specs.Journal.{Journal, IsFront, Extends, log_of}
-use Rattle.write_set.proofs.Sealing.{with_batch_extends}
+use Rattle.write_set.specs.laws.Sealing.{with_batch_extends}
 use Rattle.geo_world.specs.declared.event.Event.{Event}
 use Rattle.geo_world.specs.Script.{IsWithin}
 use Rattle.geo_world.specs.World.{World, RegionState, new_region, region_of, sealed_by}

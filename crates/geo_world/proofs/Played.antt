@@ -6,7 +6,7 @@ use Rattle.std.proofs.lemmas.List.Elements.{All-head, All-tail}
 use Rattle.write_set.specs.declared.batch.Batch.{Batch}
 use Rattle.write_set.specs.Journal.{Extends, last_sealed, epochs_of}
 use Rattle.write_set.specs.Snapshot.{snap_rows}
-use Rattle.write_set.proofs.Sealing.{epochs_stay}
+use Rattle.write_set.specs.laws.Sealing.{epochs_stay}
 use Rattle.geo_world.specs.declared.event.Event.{Event}
 use Rattle.geo_world.specs.Script.{IsWithin}
 use Rattle.geo_world.specs.World.{World, new_region, first_world, region_of, sealed_by, open_epoch, published_epochs}

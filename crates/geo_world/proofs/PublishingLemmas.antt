@@ -15,8 +15,8 @@ use Rattle.write_set.specs.declared.candidate.Candidate.{Candidate}
 use Rattle.write_set.specs.Journal.{Journal, Epochs, AreBatches, epochs_of, log_of, batch_at, batches_at, candidates_of, placed_from, last_sealed}
 use Rattle.write_set.specs.Merge.{verdicts, is_committed}
 use Rattle.write_set.specs.Plain.{IsMergeOf}
-use Rattle.write_set.proofs.Sealing.{batches_length, batches_lawful}
-use Rattle.write_set.proofs.Placing.{length_epochs}
+use Rattle.write_set.specs.laws.Sealing.{batches_length, batches_lawful}
+use Rattle.write_set.specs.laws.Placing.{length_epochs}
 use Rattle.geo_world.specs.declared.world.World.{World as Kept}
 use Rattle.geo_world.specs.declared.region.Region.{Region}
 use Rattle.geo_world.specs.declared.session.Session.{Session as KeptSession}

@@ -11,7 +11,7 @@ use Rattle.write_set.specs.declared.batch.Batch.{Batch}
 use Rattle.write_set.specs.declared.candidate.Candidate.{Candidate}
 use Rattle.write_set.specs.Journal.{Journal, Epochs, epochs_of, log_of, batch_at}
 use Rattle.write_set.specs.Plain.{Merged, IsMergeOf}
-use Rattle.write_set.proofs.Sealing.{with_batch_epochs, with_batch_old, with_batch_new, with_batch_sealed}
+use Rattle.write_set.specs.laws.Sealing.{with_batch_epochs, with_batch_old, with_batch_new, with_batch_sealed}
 use Rattle.geo_world.specs.declared.world.World.{World as Kept}
 use Rattle.geo_world.specs.declared.region.Region.{Region}
 use Rattle.geo_world.specs.declared.inbox.Inbox.{Inbox}

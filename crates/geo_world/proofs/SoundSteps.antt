@@ -7,7 +7,7 @@ use Rattle.std.proofs.lemmas.Option.{none-some, slice_get_within, get_or_from_sl
 use Rattle.geo_base.specs.declared.limits.TheConstants.{MAX_REGIONS, MAX_AGE, MAX_AHEAD}
 use Rattle.write_set.specs.declared.batch.Batch.{Batch}
 use Rattle.write_set.specs.Journal.{log_of, last_sealed}
-use Rattle.write_set.proofs.Rising.{one_change}
+use Rattle.write_set.specs.laws.Rising.{one_change}
 use Rattle.geo_world.specs.declared.event.Event.{Event}
 use Rattle.geo_world.specs.Script.{IsWithin}
 use Rattle.geo_world.specs.World.{World, RegionState, Packet, BatchPacket, new_region, first_world, region_of, sealed_by, open_epoch, has_arrived}

@@ -18,7 +18,8 @@ use Rattle.write_set.specs.declared.change.Change.TheVariants.{Put, Remove}
 use Rattle.write_set.specs.Sets.{ChangeOfRow}
 use Rattle.write_set.specs.Journal.{Journal, Placed, Epochs, placed_from, candidates_of, batches_at, epochs_of}
 use Rattle.write_set.specs.Merge.{committed, last_change, verdict_of, is_committed}
-use Rattle.write_set.specs.Snapshot.{Table, changes_of, changed, overlay, snap_rows}
+use Rattle.write_set.specs.Overlay.{Table, changed, overlay}
+use Rattle.write_set.specs.Snapshot.{changes_of, snap_rows}
 
 -- ---- rows
 

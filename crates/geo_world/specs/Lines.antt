@@ -1,40 +1,15 @@
 -- What the events print.
-use Rattle.std.specs.Prelude.{ℕ, ◌==◌, true, false, if◌then◌else◌, List, [], ◌∷◌, ◌++◌, length, codes}
+use Rattle.std.specs.Prelude.{ℕ, List, [], ◌∷◌, ◌++◌, length, codes}
 use Rattle.std.specs.List.{flat_map}
-use Rattle.std.specs.Fmt.{decimal, signed_decimal}
-use Rattle.geo_base.specs.declared.cell.Cell.{Cell}
-use Rattle.geo_base.specs.declared.cell.Cell.TheVariants.{Null, Int, Text, Truth}
+use Rattle.std.specs.Fmt.{decimal}
+use Rattle.geo_base.specs.Texts.{row_text}
 use Rattle.geo_base.specs.declared.numbers.CandId.{CandId}
 use Rattle.geo_base.specs.declared.row_id.RowId.{RowId}
-use Rattle.write_set.specs.Snapshot.{Table}
+use Rattle.write_set.specs.Overlay.{Table}
 
 -- the text of a line with its line feed
 abbrev pub line : List ℕ → List ℕ
 line text = text ++ (10 ∷ [])
-
--- the text with each quote in it doubled
-abbrev pub doubled : List ℕ → List ℕ
-doubled text = flat_map (λ b. if b == 39 then 39 ∷ 39 ∷ [] else b ∷ []) text
-
--- a text in quotes, with each quote in it doubled
-abbrev pub quoted : List ℕ → List ℕ
-quoted text = codes "'" ++ doubled text ++ codes "'"
-
-abbrev pub cell_text : Cell → List ℕ
-cell_text Null = codes "NULL"
-cell_text (Int number) = signed_decimal number
-cell_text (Text text) = quoted text
-cell_text (Truth true) = codes "TRUE"
-cell_text (Truth false) = codes "FALSE"
-
--- the cells with a comma and a space between
-abbrev pub cells_text : List Cell → List ℕ
-cells_text [] = []
-cells_text (c ∷ []) = cell_text c
-cells_text (c ∷ d ∷ cells) = cell_text c ++ codes ", " ++ cells_text (d ∷ cells)
-
-abbrev pub row_text : List Cell → List ℕ
-row_text cells = codes "(" ++ cells_text cells ++ codes ")"
 
 -- a line for each row of the table
 abbrev pub rows_lines : Table → List ℕ

@@ -4,8 +4,8 @@ ghost use Rattle.geo_world.specs.Lines as lines;
 
 mod rows;
 
-use geo_base::{CandId, Csn, Epoch, NoMemory, RegionNo, RowId};
-use rows::{print_row, print_rows};
+use geo_base::{CandId, Csn, Epoch, NoMemory, RegionNo, RowId, print_row};
+use rows::print_rows;
 use std::fmt::Write;
 use write_set::Plain;
 

@@ -6,7 +6,7 @@ ghost use Rattle.geo_base.specs.declared.limits.TheConstants.{MAX_AHEAD, MAX_REG
 ghost use Rattle.write_set.specs.Journal.{Epochs, candidates_of};
 ghost use Rattle.write_set.specs.Merge.{verdicts};
 ghost use Rattle.write_set.specs.Plain.{IsMergeOf};
-ghost use Rattle.write_set.specs.Snapshot.{image_in};
+ghost use Rattle.write_set.specs.Overlay.{image_in};
 ghost use Rattle.geo_world.specs.Regions.{IsNew, Takes, Seals, Receives, TakesOut, Gathers, IsReady, Publishes, has_next, next_batch_of, next_batches};
 ghost use Rattle.geo_world.specs.Step.{numbers_below};
 

@@ -1,7 +1,8 @@
 use Rattle.std.proofs.Common.{◌∷◌, [], ◌≡◌, ◌++◌, string_bytes}
 use Rattle.std.specs.Prelude.{codes}
 use Rattle.std.specs.Fmt.{decimal}
-use Rattle.geo_world.specs.Lines.{duplicate, row_text}
+use Rattle.geo_base.specs.Texts.{row_text}
+use Rattle.geo_world.specs.Lines.{duplicate}
 use Rattle.geo_world.proofs.LineLemmas.{duplicate-joined}
 use Rattle.geo_world.proofs.printing.print_duplicate.Goals as goal
 

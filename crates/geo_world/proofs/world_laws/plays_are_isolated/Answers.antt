@@ -1,4 +1,4 @@
-use Rattle.write_set.proofs.Isolating.{is_isolated}
+use Rattle.write_set.specs.laws.Isolating.{is_isolated}
 use Rattle.geo_world.proofs.Played.{played-sound}
 use Rattle.geo_world.proofs.world_laws.plays_are_isolated.Goals as goal
 

@@ -1,7 +1,7 @@
 use Rattle.std.proofs.Common.{sym, ◌≡◌, ◌++◌, string_bytes}
 use Rattle.std.specs.Prelude.{Some}
 use Rattle.std.specs.List.{slice_get}
-use Rattle.geo_world.specs.Lines.{row_text}
+use Rattle.geo_base.specs.Texts.{row_text}
 use Rattle.geo_world.proofs.LineLemmas.{rows-written}
 use Rattle.geo_world.proofs.printing.rows.print_rows.Goals as goal
 

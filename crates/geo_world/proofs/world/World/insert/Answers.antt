@@ -1,7 +1,7 @@
 -- An insert is refused where its row is there, and else taken.
 use Rattle.std.proofs.Common.{◌≡◌, ◌<◌, [], ◌∷◌, ℤ, false, refl, sym, ap, ap₂, subst, ◌∙◌, List, is_some, to_z, of_z, to_z-of_z, w64, FitsSigned, length}
 use Rattle.std.proofs.lemmas.Result.{on_ok_weaker}
-use Rattle.write_set.specs.Snapshot.{image_in}
+use Rattle.write_set.specs.Overlay.{image_in}
 use Rattle.write_set.specs.declared.candidate.Candidate.{Candidate}
 use Rattle.geo_world.specs.declared.region.Region.{Region}
 use Rattle.geo_world.specs.Step.{put_candidate}
