@@ -4,7 +4,7 @@ use Rattle.std.specs.List.{list_any}
 use Rattle.std.specs.declared.cmp.Ordering.{Ordering}
 use Rattle.std.specs.declared.cmp.Ordering.TheVariants.{Less, Equal, Greater}
 use Rattle.std.specs.Ordering.{ordering_reverse}
-use Rattle.std.proofs.lemmas.Bool.{false≢true}
+use Rattle.std.proofs.lemmas.Bool.{false≢true, cases_lt}
 use Rattle.std.proofs.lemmas.Bool.Decides.{nat_tests}
 use Rattle.geo_base.specs.declared.row_id.RowId.{RowId}
 use Rattle.geo_base.specs.declared.claim.Claim.{Claim}
@@ -183,7 +183,24 @@ last_changed journal (suc n) row = by (list_any (λ c. has_row row c.set) (commi
         subst at this (omega arith, λ some. any_found (λ c. has_row row c.set) (committed (epochs_of journal (suc n))) is)
     by false is rest = (omega (arith, rest.0), rest.1)
 
-pub last_change_is : (journal : Journal) (upto : ℕ) (row : RowId) → IsLastChange journal upto row (last_change (epochs_of journal upto) row)
-last_change_is journal upto row =
+last_change_such : (journal : Journal) (upto : ℕ) (row : RowId) → IsLastChange journal upto row (last_change (epochs_of journal upto) row)
+last_change_such journal upto row =
     let is = last_changed journal upto row in
     record { within = is.0; changed = is.1; last = λ e c below among has. changed_since journal e upto c row below among has }
+
+-- of two last changes none is later
+no_later : (journal : Journal) (upto : ℕ) (row : RowId) (e f : ℕ) → IsLastChange journal upto row e → IsLastChange journal upto row f → e ≤ f
+no_later journal upto row e f first second =
+    ⊎_elim (λ none. omega (arith, none))
+    (λ some. let found = first.changed some in second.last e found.0 first.within found.1 found.2)
+    (cases_lt e 1)
+
+pub last_change_is : (journal : Journal) (upto : ℕ) (row : RowId) (epoch : ℕ) →
+    (last_change (epochs_of journal upto) row ≡ epoch) ↔ IsLastChange journal upto row epoch
+last_change_is journal upto row epoch = (
+  λ e. subst (IsLastChange journal upto row) e (last_change_such journal upto row),
+  λ is.
+      let such = last_change_such journal upto row in
+      let at = last_change (epochs_of journal upto) row in
+      omega (arith, no_later journal upto row at epoch such is, no_later journal upto row epoch at is such),
+)

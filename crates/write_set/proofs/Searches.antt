@@ -1,15 +1,14 @@
 -- What a search of a list finds, and what a test that all its elements fail says.
-use Rattle.std.proofs.Common.{◌≡◌, ⊎_elim, Bool, true, false, cond, Option, None, Some, List, [], ◌∷◌, Contains, find, refl, sym, ap, ◌∙◌, subst}
+use Rattle.std.proofs.Common.{◌≡◌, Bool, true, false, cond, get_or, Option, None, Some, List, [], ◌∷◌, Contains, find, refl, sym, ap, ◌∙◌, subst}
 use Rattle.std.specs.List.{list_any}
 use Rattle.std.proofs.lemmas.Bool.{false≢true}
-use Rattle.write_set.specs.laws.Among.{true_or_false, among_first, among_later, any_found, none_found}
+use Rattle.std.proofs.lemmas.List.Elements.{Contains-get_or}
+use Rattle.std.proofs.lemmas.List.Folds.{list_any_none}
+use Rattle.write_set.specs.laws.Among.{among_first, among_later, none_found}
 
 module _ {X : Type 0} where
   pub none_passes : (test : X → Bool) (xs : List X) → ((x : X) → Contains xs x → test x ≡ false) → list_any test xs ≡ false
-  none_passes test xs h =
-      ⊎_elim
-      (λ t. let found = any_found test xs t in absurd (false≢true (sym (h found.0 found.1) ∙ found.2)))
-      (λ f. f) (true_or_false (list_any test xs))
+  none_passes test xs h = list_any_none test xs (λ k d within. h (get_or xs k d) (Contains-get_or xs k d within))
 
   pub found_among : (test : X → Bool) (xs : List X) (x : X) → find test xs ≡ Some x → Contains xs x × (test x ≡ true)
   found_among test [] x e = cc

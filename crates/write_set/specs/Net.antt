@@ -1,5 +1,5 @@
 -- The net write set of a transaction: what is left of its changes. `net_of` is the description to believe. `IsNet` says again what
--- has to hold of it, and the law `nets_have_last_changes` ties it to `net_of`.
+-- has to hold of it, and the law `nets_have_last_changes` ties it to `net_of`: it holds of that list alone.
 use Rattle.std.specs.Prelude.{◌≡◌, ◌<◌, ◌≤◌, Bool, true, false, Option, Some, None, List, [], ◌∷◌, length, find, reverse}
 use Rattle.std.specs.Option.{option_map_or}
 use Rattle.std.specs.Map.{lookup, remove_entry}

@@ -1,5 +1,6 @@
 -- The rules of verdicts and of last changes, as what has to hold of them. It is said again here, not for the first time: the
--- description to believe is Merge, and the laws `verdicts_are_by_the_rules` and `last_changes_are_last` tie this one to it.
+-- description to believe is Merge, and the laws `verdicts_are_by_the_rules` and `last_changes_are_last` tie this one to it: it holds
+-- of what those functions give alone.
 use Rattle.std.specs.Prelude.{◌≡◌, ℕ, ◌<◌, ◌≤◌, true, List, Contains}
 use Rattle.std.specs.declared.cmp.Ordering.TheVariants as order
 use Rattle.geo_base.specs.declared.row_id.RowId.{RowId}

@@ -44,10 +44,11 @@ pub fn rows_are_the_snapshot()
     ensures images { (epochs : Epochs) (row : RowId) → image_in (snap_rows epochs) row ≡ snap_at epochs row }
 {}
 
-/// The net of a set and of changes after it has each row once and in rising order, with what the last change
-/// of the row leaves, or with its change in the set where none of them is of the row.
+/// The net of a set and of changes after it is the one list that has each row once and in rising order, with
+/// what the last change of the row leaves, or with its change in the set where none of them is of the row.
 pub fn nets_have_last_changes()
-    ensures { (set : List ChangeOfRow) (changes : List RowChange) → Rises set → IsNet set changes (net_of set changes) }
+    ensures { (set : List ChangeOfRow) (changes : List RowChange) (net : List ChangeOfRow) → Rises set →
+        (net_of set changes ≡ net) ↔ IsNet set changes net }
 {}
 
 /// A verdict that names a winner names a fresh candidate that has the row and that no other such one beats.
@@ -74,8 +75,9 @@ pub fn names_are_of_one_candidate()
         id_of (place + 1) c ≡ id_of (place + 1) d → c ≡ d }
 {}
 
-/// The last change of a row, up to an epoch, is the last epoch in which a candidate that commits has it.
+/// The last change of a row, up to an epoch, is the last epoch in which a candidate that commits has it, or 0
+/// where there is none.
 pub fn last_changes_are_last()
-    ensures { (journal : Journal) (upto : ℕ) (row : RowId) →
-        IsLastChange journal upto row (last_change (epochs_of journal upto) row) }
+    ensures { (journal : Journal) (upto : ℕ) (row : RowId) (epoch : ℕ) →
+        (last_change (epochs_of journal upto) row ≡ epoch) ↔ IsLastChange journal upto row epoch }
 {}

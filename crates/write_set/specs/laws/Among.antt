@@ -2,6 +2,9 @@
 use Rattle.std.proofs.Common.{◌≡◌, ◌⊎◌, inl, inr, ⊎_elim, ℕ, ◌<◌, zero, suc, Bool, true, false, cond, ◌||◌, ◌&&◌, None, Some, List, [], ◌∷◌, length, get_or, Contains, filter, find, refl, sym, ap, ◌∙◌, subst, arith}
 use Rattle.std.specs.List.{list_any, list_all}
 use Rattle.std.proofs.lemmas.Bool.{false≢true}
+use Rattle.std.proofs.lemmas.List.Elements.{All-contains, All-contains_itself, All-filter, Contains-get_or, filter_passes}
+use Rattle.std.proofs.lemmas.List.Folds.{Any-from_list_any, list_any_at}
+use Rattle.std.proofs.lemmas.List.Sums.{AllPass-from_list_all, list_all-from_AllPass}
 
 pub true_or_false : (b : Bool) → (b ≡ true) ⊎ (b ≡ false)
 true_or_false true = inl refl
@@ -35,54 +38,28 @@ module _ {X : Type 0} where
   -- ---- tests
 
   pub any_among : (test : X → Bool) (xs : List X) (x : X) → Contains xs x → test x ≡ true → list_any test xs ≡ true
-  any_among test [] x h e = absurd (among_none x h)
-  any_among test (y ∷ ys) x h e =
-      ⊎_elim
-      (λ same. ap (λ b. b || list_any test ys) (ap test same ∙ e))
-      (λ later. or_true (test y) (list_any test ys) (any_among test ys x later e))
-      (among_cases y ys x h)
-    where
-      or_true : (a b : Bool) → b ≡ true → (a || b) ≡ true
-      or_true true b e = refl
-      or_true false b e = e
+  any_among test xs x h e = list_any_at test xs h.0 x h.1 (ap test h.2 ∙ e)
 
   pub none_among : (test : X → Bool) (xs : List X) (x : X) → list_any test xs ≡ false → Contains xs x → test x ≡ false
   none_among test xs x e h =
       ⊎_elim (λ t. absurd (false≢true (sym e ∙ any_among test xs x h t))) (λ f. f) (true_or_false (test x))
 
   pub any_found : (test : X → Bool) (xs : List X) → list_any test xs ≡ true → (x : X) × Contains xs x × (test x ≡ true)
-  any_found test [] e = absurd (false≢true e)
-  any_found test (y ∷ ys) e = by (test y) refl e (any_found test ys)
-    where
-      by : (b : Bool) → test y ≡ b → (b || list_any test ys) ≡ true → (list_any test ys ≡ true → (x : X) × Contains ys x × (test x ≡ true)) →
-          (x : X) × Contains (y ∷ ys) x × (test x ≡ true)
-      by true is e rest = (y, among_first y ys, is)
-      by false is e rest = let found = rest e in (found.0, among_later y found.0 ys found.1, found.2)
+  any_found test xs e = let found = Any-from_list_any test xs e in (found.1, (found.0, found.2, found.3), found.4)
 
   pub all_among : (test : X → Bool) (xs : List X) (x : X) → list_all test xs ≡ true → Contains xs x → test x ≡ true
-  all_among test [] x e h = absurd (among_none x h)
-  all_among test (y ∷ ys) x e h =
-      let both = and_true (test y) (list_all test ys) e in
-      ⊎_elim (λ same. ap test (sym same) ∙ both.0) (λ later. all_among test ys x both.1 later) (among_cases y ys x h)
+  all_among test xs x e h = All-contains (λ y. test y ≡ true) xs x (AllPass-from_list_all test xs e) h
 
   pub all_pass : (test : X → Bool) (xs : List X) → ((x : X) → Contains xs x → test x ≡ true) → list_all test xs ≡ true
-  all_pass test [] h = refl
-  all_pass test (y ∷ ys) h =
-      ap (λ b. b && list_all test ys) (h y (among_first y ys)) ∙ all_pass test ys (λ x later. h x (among_later y x ys later))
+  all_pass test xs h = list_all-from_AllPass test xs (λ k d within. h (get_or xs k d) (Contains-get_or xs k d within))
 
   -- ---- filters
 
   pub filtered_among : (test : X → Bool) (xs : List X) (x : X) → Contains (filter test xs) x → Contains xs x × (test x ≡ true)
-  filtered_among test [] x h = absurd (among_none x h)
-  filtered_among test (y ∷ ys) x h = by (test y) refl h (filtered_among test ys x)
-    where
-      by : (b : Bool) → test y ≡ b → Contains (cond b (y ∷ filter test ys) (filter test ys)) x →
-          (Contains (filter test ys) x → Contains ys x × (test x ≡ true)) → Contains (y ∷ ys) x × (test x ≡ true)
-      by true is k rest =
-          ⊎_elim
-          (λ same. (subst (Contains (y ∷ ys)) same (among_first y ys), ap test (sym same) ∙ is))
-          (λ later. (among_later y x ys (rest later).0, (rest later).1)) (among_cases y (filter test ys) x k)
-      by false is k rest = (among_later y x ys (rest k).0, (rest k).1)
+  filtered_among test xs x h = (
+    All-contains (Contains xs) (filter test xs) x (All-filter test (Contains xs) xs (All-contains_itself xs)) h,
+    All-contains (λ y. test y ≡ true) (filter test xs) x (filter_passes test xs) h,
+  )
 
   pub among_filtered : (test : X → Bool) (xs : List X) (x : X) → Contains xs x → test x ≡ true → Contains (filter test xs) x
   among_filtered test [] x h e = absurd (among_none x h)
