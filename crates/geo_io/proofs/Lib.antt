@@ -1,1 +1,1 @@
-pub mod ToldLemmas
+mod ToldLemmas

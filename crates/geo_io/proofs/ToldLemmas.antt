@@ -1,26 +1,11 @@
 -- Lemmas on what is told, over several calls. `Rattle.std.proofs.KnownBytes` has those on `Appends`,
 -- `Consumes` and `Keeps` alone, as `Appends-trans` and `Consumes-trans`.
-use Rattle.std.proofs.Common.{ℕ, ◌+◌, ◌≤◌, List, ◌++◌, Option, length, take, drop, refl, sym, ap, subst, ◌∙◌, append_assoc, take-append-drop, length-append, arith}
+use Rattle.std.proofs.Common.{ℕ, ◌+◌, ◌≤◌, List, ◌++◌, Option, length, take, drop, sym, subst, length-append, arith}
 use Rattle.std.proofs.Math.Seq.{take-add}
 use Rattle.std.specs.Io.KnownBytes.{Appends, Consumes, Keeps}
 use Rattle.std.proofs.KnownBytes.{Appends-trans, Appends-kept, Consumes-trans}
-use Rattle.geo_io.specs.Told.{IsFrontOf, AppendsFrontOf, LosesAtMost}
-
--- ---- a front of a list
-
-pub IsFrontOf-append : (xs ys : List ℕ) → IsFrontOf xs (xs ++ ys)
-IsFrontOf-append xs ys = (ys, refl)
-
-pub IsFrontOf-take : (n : ℕ) (xs : List ℕ) → IsFrontOf (take n xs) xs
-IsFrontOf-take n xs = (drop n xs, take-append-drop n xs)
-
-pub IsFrontOf-trans : (xs ys zs : List ℕ) → IsFrontOf xs ys → IsFrontOf ys zs → IsFrontOf xs zs
-IsFrontOf-trans xs ys zs p q =
-    (p.0 ++ q.0, sym (append_assoc xs p.0 q.0) ∙ ap (λ l. l ++ q.0) p.1 ∙ q.1)
-
--- the same bytes stand before both
-pub IsFrontOf-behind : (zs xs ys : List ℕ) → IsFrontOf xs ys → IsFrontOf (zs ++ xs) (zs ++ ys)
-IsFrontOf-behind zs xs ys p = (p.0, append_assoc zs xs p.0 ∙ ap (λ l. zs ++ l) p.1)
+use Rattle.geo_io.specs.Told.{AppendsFrontOf, LosesAtMost}
+use Rattle.geo_io.specs.laws.Told.{IsFrontOf-take}
 
 -- ---- a front of some bytes was appended
 

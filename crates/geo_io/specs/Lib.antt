@@ -1,3 +1,5 @@
 pub mod Causes
 pub mod Told
 pub mod Memory
+pub mod Edge
+pub mod laws

@@ -4,8 +4,9 @@
 //! So whoever builds on these traits can promise which bytes it wrote for which bytes it read, and that it
 //! answers no fault of its own. `read_limited` and `write_whole` are the loops that every caller needs.
 //!
-//! The sources, sinks and keepers in memory tell all they hold. Those over a reader or a writer of std tell
-//! nothing: they are the edge that no clause reaches behind.
+//! The sources, sinks and keepers in memory tell all they hold. Those over a reader or a writer of std tell what
+//! std knows of it: all of bytes in memory, and nothing of standard input and output, which are the edge that no
+//! clause reaches behind.
 #![tactic(auto)]
 
 mod clean_keepers;

@@ -3,7 +3,7 @@ use Rattle.std.proofs.Common.{◌≡◌, ℕ, ◌+◌, ◌-◌, ◌<◌, List, [
 use Rattle.std.proofs.lemmas.List.{take_more}
 use Rattle.std.specs.Io.KnownBytes.{Appends}
 use Rattle.geo_io.specs.Told.{IsFrontOf, AppendsFrontOf}
-use Rattle.geo_io.proofs.ToldLemmas.{IsFrontOf-append, IsFrontOf-behind, IsFrontOf-trans}
+use Rattle.geo_io.specs.laws.Told.{IsFrontOf-append, IsFrontOf-behind, IsFrontOf-trans}
 use Rattle.std.proofs.KnownBytes.{Appends-trans, Appends-nil}
 use Rattle.geo_world.specs.declared.event.Event.{Event}
 use Rattle.geo_world.specs.World.{World}
