@@ -1,10 +1,10 @@
 -- What events print, taken event by event.
-use Rattle.std.proofs.Common.{◌≡◌, ℕ, ◌+◌, ◌-◌, ◌<◌, List, [], ◌∷◌, ◌++◌, length, get_or, take, drop, refl, ap, sym, ◌∙◌, append_assoc, append-nil, take-append-drop, arith, Option}
+use Rattle.std.proofs.Common.{◌≡◌, ℕ, ◌+◌, ◌-◌, ◌<◌, List, [], ◌∷◌, ◌++◌, length, get_or, take, drop, refl, ap, sym, ◌∙◌, append_assoc, append-nil, take-append-drop, take_all, ◌≤◌, arith, Option}
 use Rattle.std.proofs.lemmas.List.{take_more}
-use Rattle.std.specs.Io.KnownBytes.{Appends}
+use Rattle.std.specs.Io.KnownBytes.{Appends, Keeps}
 use Rattle.geo_io.specs.Told.{IsFrontOf, AppendsFrontOf}
 use Rattle.geo_io.specs.laws.Told.{IsFrontOf-append, IsFrontOf-behind, IsFrontOf-trans}
-use Rattle.std.proofs.KnownBytes.{Appends-trans, Appends-nil}
+use Rattle.std.proofs.KnownBytes.{Appends-trans, Appends-nil, Appends-kept}
 use Rattle.geo_world.specs.declared.event.Event.{Event}
 use Rattle.geo_world.specs.World.{World}
 use Rattle.geo_world.specs.Step.{step}
@@ -68,3 +68,27 @@ StoppedAfter-event w xs i e a b c within before last =
       most = more;
       front = IsFrontOf-trans _ _ _ more (text_of-front w xs (i + 1));
     }
+
+-- all lines were written
+pub StoppedAfter-all : (w : World) (xs : List Event) (a b : Option (List ℕ)) → Appends a b (text_of w xs) → StoppedAfter w xs a b
+StoppedAfter-all w xs a b appended = record {
+  done = length xs;
+  within = omega arith;
+  gained = text_of w xs;
+  appended = appended;
+  least = text_of-front w xs (length xs - 1);
+  most = rw (take_all (length xs) xs (omega arith)) ([], append-nil (text_of w xs));
+  front = ([], append-nil (text_of w xs));
+}
+
+-- and then nothing changed
+pub StoppedAfter-kept : (w : World) (xs : List Event) (a b c : Option (List ℕ)) → StoppedAfter w xs a b → Keeps b c → StoppedAfter w xs a c
+StoppedAfter-kept w xs a b c stopped kept = record {
+  done = stopped.done;
+  within = stopped.within;
+  gained = stopped.gained;
+  appended = Appends-kept a b c stopped.gained stopped.appended kept;
+  least = stopped.least;
+  most = stopped.most;
+  front = stopped.front;
+}

@@ -9,17 +9,17 @@ use Rattle.geo_world.specs.declared.event.Event.{Event}
 use Rattle.geo_world.specs.declared.script.Script.{Script}
 use Rattle.geo_world.specs.declared.script.ScriptFault.{ScriptFault}
 use Rattle.geo_world.specs.declared.script.ScriptKind.{ScriptKind}
+use Rattle.geo_world.specs.declared.script.ReadFault.{ReadFault}
+use Rattle.geo_world.specs.declared.script.ReadFault.TheVariants as read
 use Rattle.geo_world.specs.Script.{IsScript, IsWithin, AreLinesOf}
 use Rattle.geo_world.specs.Fault.{IsFault}
-use Rattle.geogauss.specs.declared.status.Status.{Status}
-use Rattle.geogauss.specs.declared.status.Status.TheVariants as status
-use Rattle.geogauss.specs.Status.{IsScriptFault, IsReadingFault}
 use Rattle.write_set.specs.Isolation.{IsSnapshotIsolated}
 use Rattle.write_set.proofs.Isolating.{is_isolated}
 use Rattle.geo_world.specs.Play.{world_after}
 use Rattle.geo_world.specs.Plays.{LeadTo}
 use Rattle.geo_world.proofs.Played.{played-sound}
-use Rattle.geogauss.specs.Playing.{IsPlayable, IsReadWhole, bytes_read, world_of, play_journal}
+use Rattle.geogauss.specs.Playing.{bytes_read, world_of, play_journal}
+use Rattle.geogauss.specs.inner.Reading.{IsPlayable, IsReadWhole, IsNoText}
 
 -- bytes that were taken up to a limit are the first of the input
 first-bytes : (limit : ℕ) (input bytes : List ℕ) (new : Option (List ℕ)) → Consumes (Some input) new bytes → length bytes ≤ limit + 1 →
@@ -75,15 +75,19 @@ play-isolated last script bytes spelled =
     leads : LeadTo script.regions last script.events (world_after (world_of last script) script.events)
     leads = record { some = spelled.some; few = spelled.few; within = (script-playable script bytes spelled).within; after = refl }
 
--- the fault of the bytes that were read is that of the call
-pub fault-is : (input bytes : List ℕ) (fault : ScriptFault) (line : ℕ) (kind : ScriptKind) → bytes_read input ≡ bytes → IsFault bytes fault →
-    fault.line ≡ line → fault.kind ≡ kind → IsFault (bytes_read input) (record { line = line; kind = kind })
-fault-is input bytes fault line kind e is l k = rw e (rw (← l) (rw (← k) is))
+-- bytes that were taken up to the limit and are no script
+pub no-text : (old new : Option (List ℕ)) (bytes : List ℕ) (fault : ScriptFault) → Consumes old new bytes → length bytes ≤ SCRIPT_BYTES + 1
+    → (length bytes ≤ SCRIPT_BYTES → IsAtEnd new) → IsFault bytes fault → ((script : Script) → ¬ (IsScript script bytes))
+    → IsNoText fault.line fault.kind old new
+no-text old new bytes fault taken few whole is none = record {
+  fault = λ input told. rw (bytes-are old new input bytes told taken few whole) is;
+  unscripted = λ input script told spelled. none script (script-is input bytes script (bytes-are old new input bytes told taken few whole) spelled);
+  taken = λ input told. rw (bytes-are old new input bytes told taken few whole) taken;
+}
 
--- of these, none is a refusal
-pub reading-unfaulted : (s : Status) → (s ≡ status.ReadFault) ⊎ (s ≡ status.NoMemory) → IsScriptFault s → ⊥
-reading-unfaulted s (inl e) fault = rw e at fault
-reading-unfaulted s (inr e) fault = rw e at fault
+-- a fault of the text is no want of memory
+pub not-told : {fault : ScriptFault} (e : ReadFault) → e ≡ read.NoMemory → e ≡ read.Script fault → ⊥
+not-told e none is = cc
 
 -- a list of one item
 pub one-item : {X : Type 0} (items : List X) (item : X) → length items < 2 → 1 ≤ length items → item ≡ get_or items 0 item → items ≡ item ∷ []

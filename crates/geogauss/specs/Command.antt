@@ -1,7 +1,11 @@
 -- What the words of the command line ask for.
-use Rattle.std.specs.Prelude.{◌≡◌, ℕ, false, None, List, [], ◌∷◌, codes}
+use Rattle.std.specs.Prelude.{◌≡◌, ℕ, false, None, List, [], ◌∷◌, codes, String, drop, map, string_bytes}
 use Rattle.geo_base.specs.declared.limits.TheConstants.{LAST_EPOCH}
 use Rattle.geogauss.specs.declared.command.PlayOpts.{PlayOpts}
+
+-- the arguments of a process without the first, which is the program's name
+abbrev pub words_behind_name : {A : Type 0} → List (String A) → List (List ℕ)
+words_behind_name args = drop 1 (map string_bytes args)
 
 -- the words are the one word `play`
 abbrev pub IsPlay : List (List ℕ) → Type 0

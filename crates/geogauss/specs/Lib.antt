@@ -1,3 +1,5 @@
 pub mod Command
 pub mod Status
 pub mod Playing
+pub mod Meaning
+pub mod inner

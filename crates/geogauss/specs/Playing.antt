@@ -1,12 +1,12 @@
 -- What a play prints, and how much of it was printed where the play stopped.
-use Rattle.std.specs.Prelude.{◌≡◌, ℕ, ◌+◌, ◌-◌, ◌≤◌, Option, Some, List, [], length, take, All}
-use Rattle.std.specs.Io.KnownBytes.{Appends, Consumes}
-use Rattle.geo_base.specs.declared.limits.TheConstants.{MAX_REGIONS, SCRIPT_BYTES}
+use Rattle.std.specs.Prelude.{ℕ, ◌+◌, ◌-◌, ◌≤◌, Option, List, length, take}
+use Rattle.std.specs.Io.KnownBytes.{Appends}
+use Rattle.geo_base.specs.declared.limits.TheConstants.{SCRIPT_BYTES}
 use Rattle.geo_io.specs.Told.{IsFrontOf}
 use Rattle.write_set.specs.Journal.{Journal}
 use Rattle.geo_world.specs.declared.event.Event.{Event}
 use Rattle.geo_world.specs.declared.script.Script.{Script}
-use Rattle.geo_world.specs.Script.{IsScript, IsWithin}
+use Rattle.geo_world.specs.Script.{IsScript}
 use Rattle.geo_world.specs.World.{World, first_world}
 use Rattle.geo_world.specs.Play.{text_of, world_after}
 
@@ -40,16 +40,3 @@ pub record StoppedAfter (w : World) (events : List Event) (old new : Option (Lis
   pub least : IsFrontOf (text_of w (take (done - 1) events)) gained
   pub most : IsFrontOf gained (text_of w (take done events))
   pub front : IsFrontOf gained (text_of w events)
-
--- the script has 1 to 8 regions, and its events are of these
-pub record IsPlayable (script : Script) : Type 0 where
-  pub some : 1 ≤ script.regions
-  pub few : script.regions ≤ MAX_REGIONS
-  pub within : All (IsWithin script.regions) script.events
-
--- the script's text was taken from the source, which has no more
-pub record IsReadWhole (script : Script) (old new : Option (List ℕ)) : Type 0 where
-  pub bytes : List ℕ
-  pub spelled : IsScript script bytes
-  pub taken : Consumes old new bytes
-  pub end : (input : List ℕ) → old ≡ Some input → new ≡ Some []

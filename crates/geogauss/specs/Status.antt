@@ -36,12 +36,3 @@ IsScriptFault (ScriptFault line kind) = Unit {0}
 IsScriptFault ReadFault = ⊥
 IsScriptFault WriteFault = ⊥
 IsScriptFault NoMemory = ⊥
-
--- a script was not read
-abbrev pub IsReadingFault : Status → Type 0
-IsReadingFault Done = ⊥
-IsReadingFault Usage = ⊥
-IsReadingFault (ScriptFault line kind) = Unit {0}
-IsReadingFault ReadFault = Unit {0}
-IsReadingFault WriteFault = ⊥
-IsReadingFault NoMemory = Unit {0}

@@ -1,9 +1,16 @@
-ghost use Rattle.std.specs.Prelude.{◌≡◌, MatchResult, map, string_bytes};
-ghost use Rattle.geogauss.specs.Command.{IsPlay, plain_play};
+//! What the words of the command line say.
+ghost use Rattle.std.specs.Prelude.{◌≡◌, ◌≢◌, Err, IfErr, IfOk, MatchResult, map, string_bytes};
+ghost use Rattle.std.specs.IoError.{error_kind};
+ghost use Rattle.std.specs.Vec.Iter.{into_iter_items};
+ghost use Rattle.geogauss.specs.Command.{IsPlay, plain_play, words_behind_name};
 
+use crate::status::Status;
 use geo_base::limits::LAST_EPOCH;
 use std::alloc::Global;
+use std::env::Args;
+use std::io::{self, ErrorKind};
 use std::marker::Model;
+use thiserror::Error;
 
 /// One word of the command line.
 #[derive(Debug, Drop)]
@@ -80,12 +87,67 @@ pub enum Command {
 }
 
 /// Why no command was read from the words.
-#[derive(Clone, Copy, Debug, PartialEq, Eq)]
+#[derive(Clone, Copy, Debug, PartialEq, Eq, Error)]
 pub enum WordFault {
     /// The words name no command.
+    #[error("the words name no command")]
     Usage,
-    /// There was no memory for what the words say. It says nothing of the words, and is never answered yet.
+    /// There was no memory for what the words say. It says nothing of the words.
+    #[error("out of memory")]
     NoMemory,
+}
+
+impl WordFault {
+    /// How the call ends that the words were given to.
+    pub(crate) fn status(self) -> Status
+        ensures usage { self ≡ WordFault.Usage → result ≡ Status.Usage }
+        ensures memory { self ≡ WordFault.NoMemory → result ≡ Status.NoMemory }
+    {
+        match self {
+            WordFault::Usage => Status::Usage,
+            WordFault::NoMemory => Status::NoMemory,
+        }
+    }
+}
+
+/// The words behind the program's name, which is the first of the arguments of the process. Arguments that could not
+/// be given because one is no text name no command.
+pub fn words_of(alloc: Global, args: io::Result<Args>) -> Result<Words, WordFault>
+    ensures words { IfOk args (λ all. MatchResult result
+        (λ words. words ≡ words_behind_name (into_iter_items all)) (λ fault. fault ≡ WordFault.NoMemory)) }
+    ensures no_text { IfErr args (λ e. error_kind e ≡ ErrorKind.InvalidData → result ≡ Err WordFault.Usage) }
+    ensures no_args { IfErr args (λ e. error_kind e ≢ ErrorKind.InvalidData → result ≡ Err WordFault.NoMemory) }
+{
+    match args {
+        Ok(all) => without_name(alloc, all),
+        Err(fault) => Err(args_fault(fault.kind())),
+    }
+}
+
+/// These words without the first.
+fn without_name(alloc: Global, all: Args) -> Result<Words, WordFault>
+    ensures { MatchResult result (λ words. words ≡ words_behind_name (into_iter_items all)) (λ fault. fault ≡ WordFault.NoMemory) }
+{
+    let mut rest = all;
+    drop(rest.next());
+    let mut words = Vec::new(alloc);
+    for word in rest {
+        if words.push(word).is_err() {
+            return Err(WordFault::NoMemory);
+        }
+    }
+    Ok(Words::new(words))
+}
+
+/// Why the arguments of a process were not given.
+fn args_fault(kind: ErrorKind) -> WordFault
+    ensures no_text { kind ≡ ErrorKind.InvalidData → result ≡ WordFault.Usage }
+    ensures no_args { kind ≢ ErrorKind.InvalidData → result ≡ WordFault.NoMemory }
+{
+    match kind {
+        ErrorKind::InvalidData => WordFault::Usage,
+        _ => WordFault::NoMemory,
+    }
 }
 
 /// The command that the words name: the one word `play` is a play with nothing chosen.

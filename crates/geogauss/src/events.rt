@@ -1,14 +1,16 @@
 //! Playing events one after another, each with its lines written before the next one.
-ghost use Rattle.std.specs.Prelude.{◌≡◌, ◌≤◌, ◌⊎◌, OnOk, OnErr, All};
+ghost use Rattle.std.specs.Prelude.{◌≡◌, ◌≤◌, OnOk, OnErr, All};
 ghost use Rattle.std.specs.Io.KnownBytes.{Appends};
-ghost use Rattle.geo_io.specs.Causes.{Rose, HasCauseOf};
+ghost use Rattle.geo_io.specs.Causes.{HasCauseOf};
 ghost use Rattle.geo_io.specs.Told.{AppendsFrontOf};
 ghost use Rattle.geo_world.specs.Script.{IsWithin};
 ghost use Rattle.geo_world.specs.Standing.{StandsFor, IsSomeWorld, region_count};
 ghost use Rattle.geo_world.specs.Step.{step};
 ghost use Rattle.geo_world.specs.Play.{text_of};
 ghost use Rattle.geo_world.specs.World.{World as WorldState};
-ghost use Rattle.geogauss.specs.Playing.{IsPlayable, StoppedAfter, world_of, play_text};
+ghost use Rattle.geogauss.specs.Playing.{StoppedAfter};
+ghost use Rattle.geogauss.specs.inner.Reading.{IsPlayable};
+ghost use Rattle.geogauss.specs.inner.Playing.{IsPlayed};
 
 use crate::status::Status;
 use geo_base::limits::LAST_EPOCH;
@@ -52,13 +54,15 @@ fn play_events<K: Sink>(world: &mut World, events: &[Event], out: &mut K) -> Res
 }
 
 /// Plays a script from its first world on.
-pub fn play_script<K: Sink>(alloc: Global, script: &Script, last: Epoch, out: &mut K) -> Status
+pub(crate) fn play_script<K: Sink>(
+    alloc: Global,
+    script: &Script,
+    last: Epoch,
+    out: &mut K,
+) -> Status
     requires { IsPlayable script.now }
-    ensures only { (result ≡ Status.Done) ⊎ ((result ≡ Status.WriteFault) ⊎ (result ≡ Status.NoMemory)) }
-    ensures done { result ≡ Status.Done → Appends (K.written out.old) (K.written out.new) (play_text last script.now) }
-    ensures stopped { (result ≡ Status.WriteFault) ⊎ (result ≡ Status.NoMemory) →
-        StoppedAfter (world_of last script.now) script.now.events (K.written out.old) (K.written out.new) }
-    ensures cause { result ≡ Status.WriteFault → Rose (K.faults out.old) (K.faults out.new) }
+    ensures played { IsPlayed last script.now (K.written out.old) (K.written out.new) (K.faults out.old) (K.faults out.new) result }
+    ensures later { K.faults out.old ≤ K.faults out.new }
 {
     let Ok(mut world) = World::open(alloc, script.regions, last) else {
         return Status::NoMemory;

@@ -1,14 +1,9 @@
 //! Reading the script from its source.
-ghost use Rattle.std.specs.Prelude.{◌≡◌, ◌⊎◌, ℕ, ◌+◌, List, Some, Err, IfOk, MatchResult};
-ghost use Rattle.std.specs.Io.KnownBytes.{Consumes};
-ghost use Rattle.geo_io.specs.Causes.{Rose};
+ghost use Rattle.std.specs.Prelude.{◌≡◌, ◌≤◌, ℕ, ◌+◌, List, Some, IfOk, MatchResult};
 ghost use Rattle.geo_io.specs.Told.{LosesAtMost};
 ghost use Rattle.geo_world.specs.declared.script.Script.{Script};
-ghost use Rattle.geo_world.specs.declared.script.ScriptKind.{ScriptKind};
 ghost use Rattle.geo_world.specs.Script.{IsScript};
-ghost use Rattle.geo_world.specs.Fault.{IsFault};
-ghost use Rattle.geogauss.specs.Playing.{IsReadWhole, bytes_read};
-ghost use Rattle.geogauss.specs.Status.{IsReadingFault};
+ghost use Rattle.geogauss.specs.inner.Reading.{IsReadWhole, IsNotRead};
 
 use crate::status::Status;
 use geo_base::limits::SCRIPT_BYTES;
@@ -17,17 +12,14 @@ use geo_world::{ReadFault, Script, read_script};
 use std::alloc::Global;
 
 /// Reads a script. An error is the status of the call that asks for it.
-pub fn take_script<S: Source>(alloc: Global, src: &mut S) -> Result<Script, Status>
+pub(crate) fn take_script<S: Source>(alloc: Global, src: &mut S) -> Result<Script, Status>
     ensures script { IfOk result (λ script. IsReadWhole script (S.left src.old) (S.left src.new)) }
     ensures only { (input : List ℕ) (script : Script) → S.left src.old ≡ Some input → IsScript script input →
-        MatchResult result (λ found. found ≡ script) (λ s. (s ≡ Status.ReadFault) ⊎ (s ≡ Status.NoMemory)) }
-    ensures err { MatchResult result (λ _. Unit {0}) IsReadingFault }
-    ensures fault { (input : List ℕ) (line : ℕ) (kind : ScriptKind) → S.left src.old ≡ Some input →
-        result ≡ Err (Status.ScriptFault line kind) → IsFault (bytes_read input) (record { line = line; kind = kind }) }
-    ensures read { (input : List ℕ) (line : ℕ) (kind : ScriptKind) → S.left src.old ≡ Some input →
-        result ≡ Err (Status.ScriptFault line kind) → Consumes (S.left src.old) (S.left src.new) (bytes_read input) }
+        IfOk result (λ found. found ≡ script) }
+    ensures err { MatchResult result (λ _. Unit {0})
+        (IsNotRead (S.left src.old) (S.left src.new) (S.faults src.old) (S.faults src.new)) }
     ensures taken { LosesAtMost (SCRIPT_BYTES + 1) (S.left src.old) (S.left src.new) }
-    ensures cause { result ≡ Err Status.ReadFault → Rose (S.faults src.old) (S.faults src.new) }
+    ensures later { S.faults src.old ≤ S.faults src.new }
 {
     let bytes = match read_limited(alloc, src, SCRIPT_BYTES) {
         Ok(bytes) => bytes,

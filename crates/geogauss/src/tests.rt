@@ -1,6 +1,7 @@
 //! What no clause says: that plays come to their end, the printed text of whole runs, and what is printed
 //! where the source or the sink fails.
-use crate::command::{PlayOpts, Words};
+use crate::command::{PlayOpts, WordFault, Words};
+use crate::edge::carry_out;
 use crate::playing::play_call;
 use crate::status::Status;
 use crate::top::top;
@@ -192,6 +193,39 @@ fn knows_one_word(rt: HostRuntime) -> Result<(), Fail> {
     Ok(())
 }
 
+// The room of the writer is what its buffer is handed on to at the end.
+#[test]
+fn carries_out_what_a_process_is_given(rt: HostRuntime) -> Result<(), Fail> {
+    let alloc = rt.alloc();
+    let script = with_header(alloc, "show 0\n")?;
+    let lines = b"region 0 at 0\ntable kv 0 rows\n";
+    let rows: [(&[&str], usize, Status); 4] = [
+        (&["geogauss", "play"], 100, Status::Done),
+        (&["geogauss", "play"], 4, Status::WriteFault),
+        (&["geogauss"], 100, Status::Usage),
+        (&["play"], 100, Status::Usage),
+    ];
+    for (given, size, want) in rows {
+        let mut args = Vec::new(alloc);
+        for arg in given {
+            args.push(String::from_str(alloc, arg)?)?;
+        }
+        let mut room = vec![in alloc; 0; size]?;
+        let ended = carry_out(
+            &rt,
+            alloc,
+            Ok(args.into_iter()),
+            script.as_slice(),
+            room.as_mut_slice(),
+        );
+        let status = ended.status;
+        drop(ended);
+        assert_eq!(rt; status, want);
+        assert_eq!(rt; room.starts_with(lines), want == Status::Done);
+    }
+    Ok(())
+}
+
 #[test]
 fn says_how_it_ended(rt: HostRuntime) -> Result<(), Fail> {
     let alloc = rt.alloc();
@@ -211,6 +245,13 @@ fn says_how_it_ended(rt: HostRuntime) -> Result<(), Fail> {
         let said = status.to_string(alloc)?;
         assert_eq!(rt; said.as_str(), text);
         assert_eq!(rt; status.number(), number);
+    }
+    let faults = [
+        (WordFault::Usage, "the words name no command"),
+        (WordFault::NoMemory, "out of memory"),
+    ];
+    for (fault, text) in faults {
+        assert_eq!(rt; fault.to_string(alloc)?.as_str(), text);
     }
     Ok(())
 }
