@@ -1,0 +1,76 @@
+-- What a table knows in which all pieces are finished, or one isn't.
+use Rattle.std.proofs.Common.{◌≡◌, ◌≢◌, ◌⊎◌, ℕ, ◌+◌, ◌<◌, ◌≤◌, min, max, Bool, true, false, cond, List, [], ◌∷◌, length, refl, sym, ap, ◌∙◌, subst, arith, eqb-true}
+use Rattle.std.specs.Prelude.{sum_by, All, Contains, slice_index}
+use Rattle.std.proofs.lemmas.List.Elements.{All-contains}
+use mathlib.Core.Option.{some}
+use lib.ListN.{get_elem?}
+use Rattle.claim_rule.specs.declared.view.ClaimView.{ClaimView}
+use Rattle.claim_rule.specs.Plan.{Plan, piece_of, top, word_on, best, final_of}
+use Rattle.claim_rule.specs.Views.{times, spent_view}
+use Rattle.claim_rule.specs.Rule.{once_below, IsFinished, IsPlanned, Fits, AreDrawn, IsRuled}
+use Rattle.claim_rule.proofs.Sums.{each_at, sum_at, sum_some, times-le-length, times_none}
+use Rattle.claim_rule.proofs.Tops.{top_at, top_least, contains_at, best_at, piece_below, piece_at}
+use Rattle.claim_rule.proofs.Drawing.{once_there}
+
+-- pairs that are among others have at most their best
+best_among : (row : ℕ) (pairs claims : List (ℕ × ℕ)) → All (Contains claims) pairs → best row pairs ≤ best row claims
+best_among row pairs claims among = top_least (word_on row) pairs (best row claims) (λ i pair at. best_at claims row pair (each_at (Contains claims) pairs i pair among at))
+
+module _ (rows : ℕ) (plan : Plan) (claimed done judged : ℕ) (headers : List ℕ) (views : List ClaimView) (r : IsRuled rows plan claimed done judged headers views) where
+  pub fits_at : (id : ℕ) (v : ClaimView) → get_elem? views id ≡ some v → Fits plan done v
+  fits_at id v at = each_at (Fits plan done) views id v r.fits at
+
+  -- while a view has a number that isn't finished, not all are
+  pub undone : (id : ℕ) (v : ClaimView) → get_elem? views id ≡ some v → 0 < length v.pending → done < length plan
+  undone id v at some_pending =
+      let here = sum_at (λ u. length u.pending) views id v at in
+      let count = r.finished in
+      let all = r.claiming.drawn in
+      omega arith
+
+  -- at most as many are finished as there are
+  pub done_within : done ≤ length plan
+  done_within =
+      let count = r.finished in
+      let all = r.claiming.drawn in
+      omega arith
+
+  -- a word of a claim is at most the final word of its row
+  planned_below : (v : ClaimView) → Fits plan done v → (row : ℕ) → best row v.claims ≤ final_of plan row
+  planned_below v fits row = top_least (word_on row) v.claims (final_of plan row)
+      (λ i pair at.
+          let p = each_at (IsPlanned plan v) v.claims i pair fits.planned at in
+          let low = best_at (piece_of plan p.0) row pair p.2 in
+          let high = piece_below plan p.0 row in
+          omega arith)
+
+  header_below : (row : ℕ) → top (λ v. best row v.claims) views ≤ final_of plan row
+  header_below row = top_least (λ v. best row v.claims) views (final_of plan row) (λ i v at. planned_below v (fits_at i v at) row)
+
+  -- once all pieces are finished, each has all its claims among those of a view
+  header_above : done ≡ length plan → (row : ℕ) → final_of plan row ≤ top (λ v. best row v.claims) views
+  header_above all row = top_least (best row) plan (top (λ v. best row v.claims) views)
+      (λ x pairs at.
+          let piece = piece_at plan x pairs at in
+          let count = r.finished in
+          let drawn = r.claiming.drawn in
+          let most : min claimed (length plan) ≡ length plan = omega arith in
+          let none : sum_by (λ v. length v.pending) views ≡ 0 = omega arith in
+          let one : sum_by (λ v. times x v.claiming.numbers) views ≡ 1 = r.claiming.once x ∙ ap (once_below x) most ∙ once_there x (length plan) piece.1 in
+          let some_one : 0 < sum_by (λ v. times x v.claiming.numbers) views = omega arith in
+          let seat = sum_some (λ v. times x v.claiming.numbers) views some_one in
+          let fits = fits_at seat.0 seat.1 seat.2 in
+          let few = sum_at (λ v. length v.pending) views seat.0 seat.1 seat.2 in
+          let bare : length seat.1.pending ≡ 0 = omega arith in
+          let made = fits.made x record { drawn = seat.3; over = times_none x seat.1.pending bare } in
+          let low : best row pairs ≤ best row seat.1.claims = best_among row pairs seat.1.claims (subst (λ (l : List (ℕ × ℕ)). All (Contains seat.1.claims) l) piece.0 made) in
+          let high = top_at (λ v. best row v.claims) views seat.0 seat.1 seat.2 in
+          omega arith)
+
+  -- a header that is read once all pieces are finished is the final word
+  pub header_final : done ≡ length plan → (row : ℕ) → row < rows → slice_index headers row ≡ final_of plan row
+  header_final all row within =
+      let is = r.greatest row within in
+      let low = header_below row in
+      let high = header_above all row in
+      omega arith

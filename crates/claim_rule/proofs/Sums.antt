@@ -1,0 +1,107 @@
+-- Sums over all views where one view changes, and how often numbers stand in lists.
+use Rattle.std.proofs.Common.{◌≡◌, ◌≢◌, ◌⊎◌, inl, inr, ℕ, zero, suc, ◌+◌, ◌<◌, ◌≤◌, Bool, true, false, cond, not, List, [], ◌∷◌, ◌++◌, length, set, refl, sym, ap, ◌∙◌, subst, ⊎_elim, arith, length-append, eqb-true, ne_eqb}
+use Rattle.std.specs.Prelude.{sum_by, All, ◌==◌}
+use Rattle.std.proofs.lemmas.List.Sums.{sum_by-cons, sum_by-append, count_by-le-length}
+use Rattle.std.proofs.lemmas.List.Elements.{All-head, All-tail}
+use mathlib.Core.Option.{some, some-ne-none, some-injective}
+use mathlib.Core.Logic.{dite}
+use native.Mathlib.Decide.{ℕ_discrete}
+use lib.ListN.{get_elem?}
+use Rattle.claim_rule.specs.Views.{times, without}
+
+module _ {A : Type 0} where
+  pub each_at : (P : A → Type 0) (xs : List A) (i : ℕ) (v : A) → All P xs → get_elem? xs i ≡ some v → P v
+  each_at P [] i v all at = absurd (some-ne-none v (sym at))
+  each_at P (x ∷ xs) zero v all at = subst P (some-injective x v at) (All-head P x xs all)
+  each_at P (x ∷ xs) (suc i) v all at = each_at P xs i v (All-tail P x xs all) at
+
+  pub sum_set : (f : A → ℕ) (xs : List A) (i : ℕ) (v w : A) → get_elem? xs i ≡ some v → sum_by f (set xs i w) + f v ≡ sum_by f xs + f w
+  sum_set f [] i v w at = absurd (some-ne-none v (sym at))
+  sum_set f (x ∷ xs) zero v w at = let same = ap f (some-injective x v at) in omega (arith, sum_by-cons f w xs, sum_by-cons f x xs)
+  sum_set f (x ∷ xs) (suc i) v w at = let rest = sum_set f xs i v w at in omega (arith, sum_by-cons f x (set xs i w), sum_by-cons f x xs)
+
+  pub sum_set_same : (f : A → ℕ) (xs : List A) (i : ℕ) (v w : A) → get_elem? xs i ≡ some v → f w ≡ f v → sum_by f (set xs i w) ≡ sum_by f xs
+  sum_set_same f xs i v w at same = let moved = sum_set f xs i v w at in omega arith
+
+  pub sum_at : (f : A → ℕ) (xs : List A) (i : ℕ) (v : A) → get_elem? xs i ≡ some v → f v ≤ sum_by f xs
+  sum_at f [] i v at = absurd (some-ne-none v (sym at))
+  sum_at f (x ∷ xs) zero v at = let same = ap f (some-injective x v at) in omega (arith, sum_by-cons f x xs)
+  sum_at f (x ∷ xs) (suc i) v at = let rest = sum_at f xs i v at in omega (arith, sum_by-cons f x xs)
+
+  pub sum_both : (f g : A → ℕ) (xs : List A) → sum_by (λ v. f v + g v) xs ≡ sum_by f xs + sum_by g xs
+  sum_both f g [] = refl
+  sum_both f g (x ∷ xs) = let rest = sum_both f g xs in omega (arith, sum_by-cons (λ v. f v + g v) x xs, sum_by-cons f x xs, sum_by-cons g x xs)
+
+  pub sum_each : (f g : A → ℕ) (xs : List A) → All (λ v. f v ≤ g v) xs → sum_by f xs ≤ sum_by g xs
+  sum_each f g [] all = omega arith
+  sum_each f g (x ∷ xs) all =
+      let here : f x ≤ g x = All-head (λ v. f v ≤ g v) x xs all in
+      let rest = sum_each f g xs (All-tail (λ v. f v ≤ g v) x xs all) in
+      omega (arith, sum_by-cons f x xs, sum_by-cons g x xs)
+
+  -- where a sum isn't 0, one of its terms isn't
+  pub sum_some : (f : A → ℕ) (xs : List A) → 0 < sum_by f xs → (i : ℕ) × (v : A) × (get_elem? xs i ≡ some v) × (0 < f v)
+  sum_some f [] more = absurd (omega arith)
+  sum_some f (x ∷ xs) more = by (f x) refl (λ later. sum_some f xs later)
+    where
+      by : (n : ℕ) → f x ≡ n → (0 < sum_by f xs → (i : ℕ) × (v : A) × (get_elem? xs i ≡ some v) × (0 < f v)) → (i : ℕ) × (v : A) × (get_elem? (x ∷ xs) i ≡ some v) × (0 < f v)
+      by zero is below =
+          let later : 0 < sum_by f xs = omega (arith, sum_by-cons f x xs) in
+          let rest = below later in
+          (suc rest.0, rest.1, rest.2, rest.3)
+      by (suc n) is below = (0, x, refl, omega arith)
+
+  -- one view takes in what another had
+  pub sum_joined : (f : A → ℕ) (xs : List A) (i j : ℕ) (v w both spent : A) → get_elem? xs i ≡ some v → get_elem? (set xs i both) j ≡ some w → f both ≡ f v + f w → f spent ≡ 0 → sum_by f (set (set xs i both) j spent) ≡ sum_by f xs
+  sum_joined f xs i j v w both spent at there adds none =
+      let one = sum_set f xs i v both at in
+      let two = sum_set f (set xs i both) j w spent there in
+      omega arith
+
+  -- one view is cut in two
+  pub sum_split : (f : A → ℕ) (xs : List A) (i : ℕ) (v left right : A) → get_elem? xs i ≡ some v → f left + f right ≡ f v → sum_by f (set xs i left ++ right ∷ []) ≡ sum_by f xs
+  sum_split f xs i v left right at adds =
+      let one = sum_set f xs i v left at in
+      omega (arith, sum_by-append f (set xs i left) (right ∷ []), sum_by-cons f right [])
+
+pub times-append : (x : ℕ) (xs ys : List ℕ) → times x (xs ++ ys) ≡ times x xs + times x ys
+times-append x xs ys = sum_by-append (λ y. cond (y == x) 1 0) xs ys
+
+pub times-le-length : (x : ℕ) (xs : List ℕ) → times x xs ≤ length xs
+times-le-length x xs = count_by-le-length (λ y. y == x) xs
+
+pub times_none : (x : ℕ) (xs : List ℕ) → length xs ≡ 0 → times x xs ≡ 0
+times_none x xs none = let few = times-le-length x xs in omega arith
+
+-- the list without x
+pub length-without : (x : ℕ) (xs : List ℕ) → length (without x xs) + times x xs ≡ length xs
+length-without x [] = refl
+length-without x (y ∷ ys) = by (y == x) refl (length-without x ys)
+  where
+    by : (b : Bool) → (y == x) ≡ b → length (without x ys) + times x ys ≡ length ys → length (without x (y ∷ ys)) + times x (y ∷ ys) ≡ length (y ∷ ys)
+    by true is rest = rw (sum_by-cons (λ z. cond (z == x) 1 0) y ys, is) (omega arith)
+    by false is rest = rw (sum_by-cons (λ z. cond (z == x) 1 0) y ys, is) (omega arith)
+
+-- how often another number stands there, and that x doesn't
+pub times-without_other : (x z : ℕ) (xs : List ℕ) → z ≢ x → times z (without x xs) ≡ times z xs
+times-without_other x z [] other = refl
+times-without_other x z (y ∷ ys) other = by (y == x) refl (times-without_other x z ys other)
+  where
+    by : (b : Bool) → (y == x) ≡ b → times z (without x ys) ≡ times z ys → times z (without x (y ∷ ys)) ≡ times z (y ∷ ys)
+    by true is rest =
+        let no : (y == z) ≡ false = ne_eqb y z (λ e. other (sym e ∙ eqb-true y x is)) in
+        rw (sum_by-cons (λ w. cond (w == z) 1 0) y ys, is, no) (omega arith)
+    by false is rest = rw (sum_by-cons (λ w. cond (w == z) 1 0) y ys, is) (omega (arith, sum_by-cons (λ w. cond (w == z) 1 0) y (without x ys)))
+
+pub times-without_same : (x : ℕ) (xs : List ℕ) → times x (without x xs) ≡ 0
+times-without_same x [] = refl
+times-without_same x (y ∷ ys) = by (y == x) refl (times-without_same x ys)
+  where
+    by : (b : Bool) → (y == x) ≡ b → times x (without x ys) ≡ 0 → times x (without x (y ∷ ys)) ≡ 0
+    by true is rest = rw is rest
+    by false is rest = rw is (sum_by-cons (λ w. cond (w == x) 1 0) y (without x ys) ∙ rw is (omega arith))
+
+pub times-without-le : (x z : ℕ) (xs : List ℕ) → times z (without x xs) ≤ times z xs
+times-without-le x z xs = dite (ℕ_discrete z x)
+    (λ (same : z ≡ x). let none : times z (without x xs) ≡ 0 = ap (λ (n : ℕ). times n (without x xs)) same ∙ times-without_same x xs in omega arith)
+    (λ (other : z ≢ x). let is = times-without_other x z xs other in omega arith)

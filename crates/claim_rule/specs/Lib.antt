@@ -1,0 +1,5 @@
+pub mod Plan
+pub mod Views
+pub mod Rule
+pub mod Seats
+pub mod inner

@@ -1,0 +1,77 @@
+-- What holds of a table between any two steps, whatever the order of the steps of its seats.
+-- The words are the claim counter, the done word, the judge counter, and one header per row.
+use Rattle.std.specs.Prelude.{◌≡◌, ℕ, ◌+◌, ◌^◌, ◌<◌, ◌≤◌, ◌⊎◌, min, true, false, cond, nat_lt, List, [], ◌∷◌, length, replicate, slice_index, All, Contains, sum_by}
+use Rattle.atomic_table.specs.Table.{State}
+use Rattle.claim_rule.specs.declared.view.Draws.{Draws}
+use Rattle.claim_rule.specs.declared.view.ClaimView.{ClaimView}
+use Rattle.claim_rule.specs.Plan.{Plan, piece_of, top, best}
+use Rattle.claim_rule.specs.Views.{times, no_draws, spent_view, closed_view}
+
+-- 1 for a number below n, and else 0
+abbrev pub once_below : ℕ → ℕ → ℕ
+once_below x n = cond (nat_lt x n) 1 0
+
+-- a seat has drawn the number and finished it
+pub record IsFinished (v : ClaimView) (x : ℕ) : Type 0 where
+  pub drawn : 0 < times x v.claiming.numbers
+  pub over : times x v.pending ≡ 0
+
+-- the plan has the pair for a number that the seat has drawn
+abbrev pub IsPlanned : Plan → ClaimView → ℕ × ℕ → Type 0
+IsPlanned plan v pair = (x : ℕ) × (0 < times x v.claiming.numbers) × Contains (piece_of plan x) pair
+
+-- what the rule says of one view, where the done word counts so many pieces
+pub record Fits (plan : Plan) (done : ℕ) (v : ClaimView) : Type 0 where
+  -- a view has the plan, and one without shares is spent
+  pub opened : v.closed ≡ false
+  pub same : 0 < v.shares → v.plan ≡ plan
+  pub empty : v.shares ≡ 0 → v ≡ spent_view
+  -- what isn't finished was drawn
+  pub drawn : (x : ℕ) → times x v.pending ≤ times x v.claiming.numbers
+  -- all claims of a finished number were made, and each claim is a pair of the plan
+  pub made : (x : ℕ) → IsFinished v x → All (Contains v.claims) (piece_of plan x)
+  pub planned : All (IsPlanned plan v) v.claims
+  -- the flag stands only where all is done, and a number for judging only beside the flag
+  pub stable : v.stable ≡ true → done ≡ length plan
+  pub judging : v.stable ≡ false → v.judging.numbers ≡ []
+  -- at most so many draws came too late as the view has shares
+  pub late_claiming : v.claiming.spent ≤ v.shares
+  pub late_judging : v.judging.spent ≤ v.shares
+
+-- the numbers drawn from one counter: they are those below it and below n, each stands once over all views, and the
+-- counter counts them and the draws that came too late
+pub record AreDrawn (counter n : ℕ) (draws : ClaimView → Draws) (views : List ClaimView) : Type 0 where
+  pub once : (x : ℕ) → sum_by (λ v. times x (draws v).numbers) views ≡ once_below x (min counter n)
+  pub drawn : sum_by (λ v. length (draws v).numbers) views ≡ min counter n
+  pub counted : sum_by (λ v. length (draws v).numbers + (draws v).spent) views ≡ counter
+
+-- the rule of a table with a plan
+pub record IsRuled (rows : ℕ) (plan : Plan) (claimed done judged : ℕ) (headers : List ℕ) (views : List ClaimView) : Type 0 where
+  pub fits : All (Fits plan done) views
+  pub claiming : AreDrawn claimed (length plan) (λ v. v.claiming) views
+  pub judging : AreDrawn judged (length plan) (λ v. v.judging) views
+  -- the done word counts the numbers that are finished
+  pub finished : done + sum_by (λ v. length v.pending) views ≡ sum_by (λ v. length v.claiming.numbers) views
+  -- each header is the greatest claim on its row over all views, or 0
+  pub greatest : (row : ℕ) → row < rows → slice_index headers row ≡ top (λ v. best row v.claims) views
+  pub shares : sum_by (λ v. v.shares) views ≤ 8
+  pub few : length plan < 2 ^ 32
+  pub long : length headers ≡ rows
+
+-- the table has no plan yet
+pub record IsClosed (rows : ℕ) (s : State (Unit {0}) ClaimView) : Type 0 where
+  pub words : s.words ≡ 0 ∷ 0 ∷ 0 ∷ replicate rows 0
+  pub views : s.views ≡ closed_view ∷ []
+
+-- the table has a plan
+pub record IsOpen (rows : ℕ) (s : State (Unit {0}) ClaimView) : Type 0 where
+  pub plan : Plan
+  pub claimed : ℕ
+  pub done : ℕ
+  pub judged : ℕ
+  pub headers : List ℕ
+  pub words : s.words ≡ claimed ∷ done ∷ judged ∷ headers
+  pub ruled : IsRuled rows plan claimed done judged headers s.views
+
+abbrev pub Holds : ℕ → State (Unit {0}) ClaimView → Type 0
+Holds rows s = IsClosed rows s ⊎ IsOpen rows s

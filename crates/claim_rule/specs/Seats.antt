@@ -1,0 +1,44 @@
+-- A table and its seats, as a caller sees them.
+use Rattle.std.specs.Prelude.{◌≡◌, ℕ, ◌<◌, ◌≤◌, false, Option, Some, None, List, All, Contains, length}
+use Rattle.claim_rule.specs.declared.view.Draws.{Draws}
+use Rattle.claim_rule.specs.declared.view.ClaimView.{ClaimView}
+use Rattle.claim_rule.specs.declared.table.ClaimTable.{ClaimTable}
+use Rattle.claim_rule.specs.declared.seat.ClaimSeat.{ClaimSeat}
+use Rattle.claim_rule.specs.Plan.{Plan, piece_of, IsPlan}
+use Rattle.claim_rule.specs.Views.{times}
+
+-- what a seat knows
+abbrev pub view_of : ClaimSeat → ClaimView
+view_of seat = seat.seat.me.0
+
+-- how many rows a table has
+abbrev pub rows_of : ClaimTable → ℕ
+rows_of table = table.rows
+
+-- the seat is one of this table, and knows its plan
+pub record IsSeatOf (table : ClaimTable) (seat : ClaimSeat) : Type 0 where
+  pub same : seat.seat.table_id ≡ table.table.shared.table_id
+  pub planned : IsPlan (view_of seat).plan table.rows table.pieces
+  pub opened : (view_of seat).closed ≡ false
+  pub some : 0 < (view_of seat).shares
+
+-- what a draw tells: a number below n that the seat lacked, of fewer than n that it had; or nothing
+abbrev pub DrawTells : ℕ → Draws → Option ℕ → Type 0
+DrawTells n before (Some x) = (x < n) × (times x before.numbers ≡ 0) × (length before.numbers < n)
+DrawTells n before None = Unit {0}
+
+-- the plan has the pair for a number that the seat has drawn and not finished
+pub record IsOwed (v : ClaimView) (row word : ℕ) : Type 0 where
+  pub piece : ℕ
+  pub pending : 0 < times piece v.pending
+  pub planned : Contains (piece_of v.plan piece) (row, word)
+
+-- the seat has drawn the piece, not finished it, and made all of its claims
+pub record IsClaimed (v : ClaimView) (piece : ℕ) : Type 0 where
+  pub pending : 0 < times piece v.pending
+  pub made : All (Contains v.claims) (piece_of v.plan piece)
+
+-- no number stands twice among those that were drawn
+pub record IsOnce (v : ClaimView) : Type 0 where
+  pub claiming : (x : ℕ) → times x v.claiming.numbers ≤ 1
+  pub judging : (x : ℕ) → times x v.judging.numbers ≤ 1

@@ -1,0 +1,13 @@
+//! Claims that race for rows, and the rule that makes them final.
+#![tactic(auto)]
+
+mod plan;
+mod plays;
+mod seat;
+mod steps;
+mod table;
+mod view;
+
+pub use plan::ClaimPlan;
+pub use seat::ClaimSeat;
+pub use table::ClaimTable;

@@ -1,0 +1,44 @@
+//! The plan of a table, which only contracts see.
+use std::marker::Brand;
+
+/// Names the plan of a table: for each piece its pairs of a row and a claim's word.
+pub trait ClaimPlan {
+    ghost use Rattle.claim_rule.specs.Plan.{Plan};
+
+    ghost plan: { Plan };
+}
+
+impl ClaimPlan for Brand {
+    ghost use Rattle.std.specs.Prelude.{[]};
+
+    ghost plan = { [] };
+}
+
+/// Names a plan, and how many shares the seat has that opens its table.
+pub(crate) trait Opening {
+    ghost use Rattle.std.specs.Prelude.{ℕ};
+    ghost use Rattle.claim_rule.specs.Plan.{Plan};
+
+    ghost plan: { Plan };
+
+    ghost shares: { ℕ };
+}
+
+impl Opening for Brand {
+    ghost use Rattle.std.specs.Prelude.{[]};
+
+    ghost plan = { [] };
+
+    ghost shares = { 1 };
+}
+
+/// Names the piece that a step finishes, or how many shares a seat gives away.
+pub(crate) trait Number {
+    ghost use Rattle.std.specs.Prelude.{ℕ};
+
+    ghost number: { ℕ };
+}
+
+impl Number for Brand {
+    ghost number = { 1 };
+}
