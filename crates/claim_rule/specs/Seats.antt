@@ -1,11 +1,11 @@
 -- A table and its seats, as a caller sees them.
-use Rattle.std.specs.Prelude.{◌≡◌, ℕ, ◌<◌, ◌≤◌, false, Option, Some, None, List, All, Contains, length}
+use Rattle.std.specs.Prelude.{◌≡◌, ℕ, ◌+◌, ◌<◌, ◌≤◌, false, Option, Some, None, List, All, Contains, length}
 use Rattle.claim_rule.specs.declared.view.Draws.{Draws}
 use Rattle.claim_rule.specs.declared.view.ClaimView.{ClaimView}
 use Rattle.claim_rule.specs.declared.table.ClaimTable.{ClaimTable}
 use Rattle.claim_rule.specs.declared.seat.ClaimSeat.{ClaimSeat}
 use Rattle.claim_rule.specs.Plan.{Plan, piece_of, IsPlan}
-use Rattle.claim_rule.specs.Views.{times}
+use Rattle.claim_rule.specs.Views.{times, fresh}
 
 -- what a seat knows
 abbrev pub view_of : ClaimSeat → ClaimView
@@ -42,3 +42,15 @@ pub record IsClaimed (v : ClaimView) (piece : ℕ) : Type 0 where
 pub record IsOnce (v : ClaimView) : Type 0 where
   pub claiming : (x : ℕ) → times x v.claiming.numbers ≤ 1
   pub judging : (x : ℕ) → times x v.judging.numbers ≤ 1
+
+-- a seat that knows the plan, has one share, and has done nothing
+pub record IsFreshSeatOf (table : ClaimTable) (plan : Plan) (seat : ClaimSeat) : Type 0 where
+  pub seated : IsSeatOf table seat
+  pub idle : view_of seat ≡ fresh plan 1 false
+
+-- a seat can give away some of its shares, where it keeps one, and as many as its draws that came too late
+pub record CanGive (v : ClaimView) (shares : ℕ) : Type 0 where
+  pub some : 0 < shares
+  pub less : shares < v.shares
+  pub claiming : v.claiming.spent + shares ≤ v.shares
+  pub judging : v.judging.spent + shares ≤ v.shares

@@ -4,6 +4,7 @@
 mod plan;
 mod plays;
 mod seat;
+mod seats;
 mod steps;
 mod table;
 mod view;
