@@ -8,7 +8,8 @@ use Rattle.claim_rule.specs.declared.view.Draws.{Draws}
 use Rattle.claim_rule.specs.declared.view.ClaimView.{ClaimView}
 use Rattle.claim_rule.specs.Views.{times, draws_after, draws_joined}
 use Rattle.claim_rule.specs.Rule.{once_below, AreDrawn}
-use Rattle.claim_rule.proofs.Sums.{sum_set, sum_set_same, sum_at, sum_joined, sum_split, sum_both, sum_each, times-append}
+use Rattle.claim_rule.proofs.Sums.{sum_set, sum_set_same, sum_at, sum_joined, sum_split, sum_both, sum_each}
+use Rattle.claim_rule.specs.laws.Times.{times-append}
 
 once_more : (x c : ℕ) → once_below x (c + 1) ≡ once_below x c + times x (c ∷ [])
 once_more x c = grind (arith, nat_tests)

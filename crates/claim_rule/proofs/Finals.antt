@@ -8,8 +8,9 @@ use Rattle.claim_rule.specs.declared.view.ClaimView.{ClaimView}
 use Rattle.claim_rule.specs.Plan.{Plan, piece_of, top, word_on, best, final_of}
 use Rattle.claim_rule.specs.Views.{times, spent_view}
 use Rattle.claim_rule.specs.Rule.{once_below, IsFinished, IsPlanned, Fits, AreDrawn, IsRuled}
-use Rattle.claim_rule.proofs.Sums.{each_at, sum_at, sum_some, times-le-length, times_none}
-use Rattle.claim_rule.proofs.Tops.{top_at, top_least, contains_at, best_at, piece_below, piece_at}
+use Rattle.claim_rule.proofs.Sums.{each_at, sum_at, sum_some}
+use Rattle.claim_rule.specs.laws.Times.{times_none}
+use Rattle.claim_rule.specs.laws.Tops.{top_at, top_least, best_at, piece_below, piece_at}
 use Rattle.claim_rule.proofs.Drawing.{once_there}
 
 -- pairs that are among others have at most their best

@@ -11,8 +11,10 @@ use Rattle.claim_rule.specs.declared.view.ClaimView.{ClaimView}
 use Rattle.claim_rule.specs.Plan.{Plan, piece_of, top, word_on, best, final_of}
 use Rattle.claim_rule.specs.Views.{times, without, no_draws, spent_view, claim_drawn, row_claimed, piece_finished, done_seen, judge_drawn}
 use Rattle.claim_rule.specs.Rule.{once_below, IsFinished, IsPlanned, Fits, AreDrawn, IsRuled}
-use Rattle.claim_rule.proofs.Sums.{each_at, sum_set, sum_set_same, sum_at, times-append, times-le-length, length-without, times-without_other, times-without_same, times-without-le}
-use Rattle.claim_rule.proofs.Tops.{top_at, top_set, top_set_same, top-append}
+use Rattle.claim_rule.proofs.Sums.{each_at, sum_set, sum_set_same, sum_at}
+use Rattle.claim_rule.specs.laws.Times.{times-append, times-le-length, length-without, times-without_other, times-without-le}
+use Rattle.claim_rule.specs.laws.Tops.{top_at, top-append}
+use Rattle.claim_rule.proofs.Tops.{top_set, top_set_same}
 use Rattle.claim_rule.proofs.Drawing.{drawn_same, drawn_some, drawn_none, drawn_once}
 use Rattle.claim_rule.proofs.Finals.{undone}
 

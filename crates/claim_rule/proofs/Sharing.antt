@@ -11,8 +11,10 @@ use Rattle.claim_rule.specs.declared.view.ClaimView.{ClaimView}
 use Rattle.claim_rule.specs.Plan.{Plan, piece_of, top, word_on, best, final_of}
 use Rattle.claim_rule.specs.Views.{times, no_draws, fresh, spent_view, shares_kept, shares_given, draws_joined, views_joined}
 use Rattle.claim_rule.specs.Rule.{once_below, IsFinished, IsPlanned, Fits, AreDrawn, IsRuled}
-use Rattle.claim_rule.proofs.Sums.{each_at, sum_joined, sum_split, times-append}
-use Rattle.claim_rule.proofs.Tops.{top_joined, top_split, top-append}
+use Rattle.claim_rule.proofs.Sums.{each_at, sum_joined, sum_split}
+use Rattle.claim_rule.specs.laws.Times.{times-append}
+use Rattle.claim_rule.specs.laws.Tops.{top-append}
+use Rattle.claim_rule.proofs.Tops.{top_joined, top_split}
 use Rattle.claim_rule.proofs.Drawing.{drawn_joined, drawn_split}
 
 -- a view that has done nothing

@@ -14,7 +14,7 @@ use Rattle.claim_rule.specs.Plan.{Plan, piece_of, top, best, final_of, IsPlan}
 use Rattle.claim_rule.specs.Views.{times, fresh, closed_view, spent_view, claim_drawn, row_claimed, piece_finished, done_seen, judge_drawn, shares_kept, shares_given, views_joined}
 use Rattle.claim_rule.specs.Rule.{Fits, AreDrawn, IsRuled, IsClosed, IsOpen, Holds}
 use Rattle.claim_rule.specs.Seats.{IsOwed, IsClaimed, IsOnce}
-use Rattle.claim_rule.specs.inner.Steps.{Seated, drawn_at, Draws_from, DrawsClaim, DrawsJudge, ClaimsRow, Finishes, SeesDone, ReadsHeader, Settles, Opens}
+use Rattle.claim_rule.specs.inner.Steps.{Seated, drawn_at, DrawsFrom, DrawsClaim, DrawsJudge, ClaimsRow, Finishes, SeesDone, ReadsHeader, Settles, Opens}
 use Rattle.claim_rule.proofs.Drawing.{drawn_new, drawn_room, drawn_once, drawn_small}
 use Rattle.claim_rule.proofs.Finals.{fits_at, done_within, header_final}
 use Rattle.claim_rule.proofs.Moves.{draw_claim_some, draw_claim_none, draw_judge_some, draw_judge_none, see_done, claim_row, finish}
@@ -50,7 +50,7 @@ module _ (rows slots id : ℕ) (me : Seated) (opened : me.0.closed ≡ false) (s
     judge_ruled flag unspent true is = draw_judge_some rows plan claimed done judged headers views r id me.0 at some_share flag (ltb-true judged (length plan) is)
     judge_ruled flag unspent false is = draw_judge_none rows plan claimed done judged headers views r id me.0 at some_share flag (ltb-false judged (length plan) is) unspent
 
-    pub claim_told : me.0.claiming.spent < me.0.shares → (w : ClaimView) × IsRuled rows plan ((claimed + 1) % 2 ^ 64) done judged headers (set views id w) × Draws_from (λ u. u.claiming) claim_drawn me claimed (w, me.1)
+    pub claim_told : me.0.claiming.spent < me.0.shares → (w : ClaimView) × IsRuled rows plan ((claimed + 1) % 2 ^ 64) done judged headers (set views id w) × DrawsFrom (λ u. u.claiming) claim_drawn me claimed (w, me.1)
     claim_told unspent = (
       claim_drawn (drawn_at claimed (length me.0.plan)) me.0,
       subst (λ (n : ℕ). IsRuled rows plan n done judged headers (set views id (claim_drawn (drawn_at claimed (length me.0.plan)) me.0))) (sym (wraps_not claimed (length plan) claimed_small r.few))
@@ -62,7 +62,7 @@ module _ (rows slots id : ℕ) (me : Seated) (opened : me.0.closed ≡ false) (s
       },
     )
 
-    pub judge_told : me.0.stable ≡ true → me.0.judging.spent < me.0.shares → (w : ClaimView) × IsRuled rows plan claimed done ((judged + 1) % 2 ^ 64) headers (set views id w) × Draws_from (λ u. u.judging) judge_drawn me judged (w, me.1)
+    pub judge_told : me.0.stable ≡ true → me.0.judging.spent < me.0.shares → (w : ClaimView) × IsRuled rows plan claimed done ((judged + 1) % 2 ^ 64) headers (set views id w) × DrawsFrom (λ u. u.judging) judge_drawn me judged (w, me.1)
     judge_told flag unspent = (
       judge_drawn (drawn_at judged (length me.0.plan)) me.0,
       subst (λ (n : ℕ). IsRuled rows plan claimed done n headers (set views id (judge_drawn (drawn_at judged (length me.0.plan)) me.0))) (sym (wraps_not judged (length plan) judged_small r.few))
@@ -126,12 +126,12 @@ module _ (rows slots id : ℕ) (me : Seated) (opened : me.0.closed ≡ false) (s
 
   -- ---- the goals of the calls
 
-  pub draws_claim : me.0.claiming.spent < me.0.shares → Allows (Holds rows) slots id me 0 (λ n. (n + 1) % 2 ^ 64) (Draws_from (λ u. u.claiming) claim_drawn me)
-  draws_claim unspent = on_claimed rows id me slots 0 (λ n. (n + 1) % 2 ^ 64) (Draws_from (λ u. u.claiming) claim_drawn me) refl opened
+  pub draws_claim : me.0.claiming.spent < me.0.shares → Allows (Holds rows) slots id me 0 (λ n. (n + 1) % 2 ^ 64) (DrawsFrom (λ u. u.claiming) claim_drawn me)
+  draws_claim unspent = on_claimed rows id me slots 0 (λ n. (n + 1) % 2 ^ 64) (DrawsFrom (λ u. u.claiming) claim_drawn me) refl opened
       (λ views plan claimed done judged headers r at. claim_told views plan claimed done judged headers r at unspent)
 
-  pub draws_judge : me.0.stable ≡ true → me.0.judging.spent < me.0.shares → Allows (Holds rows) slots id me 2 (λ n. (n + 1) % 2 ^ 64) (Draws_from (λ u. u.judging) judge_drawn me)
-  draws_judge flag unspent = on_judged rows id me slots 2 (λ n. (n + 1) % 2 ^ 64) (Draws_from (λ u. u.judging) judge_drawn me) refl opened
+  pub draws_judge : me.0.stable ≡ true → me.0.judging.spent < me.0.shares → Allows (Holds rows) slots id me 2 (λ n. (n + 1) % 2 ^ 64) (DrawsFrom (λ u. u.judging) judge_drawn me)
+  draws_judge flag unspent = on_judged rows id me slots 2 (λ n. (n + 1) % 2 ^ 64) (DrawsFrom (λ u. u.judging) judge_drawn me) refl opened
       (λ views plan claimed done judged headers r at. judge_told views plan claimed done judged headers r at flag unspent)
 
   pub finishes : (piece : ℕ) → IsClaimed me.0 piece → Allows (Holds rows) slots id me 1 (λ n. (n + 1) % 2 ^ 64) (λ found now. now ≡ (piece_finished piece me.0, me.1))

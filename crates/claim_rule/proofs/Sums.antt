@@ -1,13 +1,10 @@
--- Sums over all views where one view changes, and how often numbers stand in lists.
-use Rattle.std.proofs.Common.{◌≡◌, ◌≢◌, ◌⊎◌, inl, inr, ℕ, zero, suc, ◌+◌, ◌<◌, ◌≤◌, Bool, true, false, cond, not, List, [], ◌∷◌, ◌++◌, length, set, refl, sym, ap, ◌∙◌, subst, ⊎_elim, arith, length-append, eqb-true, ne_eqb}
-use Rattle.std.specs.Prelude.{sum_by, All, ◌==◌}
-use Rattle.std.proofs.lemmas.List.Sums.{sum_by-cons, sum_by-append, count_by-le-length}
+-- Sums over all views where one view changes.
+use Rattle.std.proofs.Common.{◌≡◌, ℕ, zero, suc, ◌+◌, ◌<◌, ◌≤◌, List, [], ◌∷◌, ◌++◌, set, refl, sym, ap, ◌∙◌, subst, arith}
+use Rattle.std.specs.Prelude.{sum_by, All}
+use Rattle.std.proofs.lemmas.List.Sums.{sum_by-cons, sum_by-append}
 use Rattle.std.proofs.lemmas.List.Elements.{All-head, All-tail}
 use mathlib.Core.Option.{some, some-ne-none, some-injective}
-use mathlib.Core.Logic.{dite}
-use native.Mathlib.Decide.{ℕ_discrete}
 use lib.ListN.{get_elem?}
-use Rattle.claim_rule.specs.Views.{times, without}
 
 module _ {A : Type 0} where
   pub each_at : (P : A → Type 0) (xs : List A) (i : ℕ) (v : A) → All P xs → get_elem? xs i ≡ some v → P v
@@ -63,45 +60,3 @@ module _ {A : Type 0} where
   sum_split f xs i v left right at adds =
       let one = sum_set f xs i v left at in
       omega (arith, sum_by-append f (set xs i left) (right ∷ []), sum_by-cons f right [])
-
-pub times-append : (x : ℕ) (xs ys : List ℕ) → times x (xs ++ ys) ≡ times x xs + times x ys
-times-append x xs ys = sum_by-append (λ y. cond (y == x) 1 0) xs ys
-
-pub times-le-length : (x : ℕ) (xs : List ℕ) → times x xs ≤ length xs
-times-le-length x xs = count_by-le-length (λ y. y == x) xs
-
-pub times_none : (x : ℕ) (xs : List ℕ) → length xs ≡ 0 → times x xs ≡ 0
-times_none x xs none = let few = times-le-length x xs in omega arith
-
--- the list without x
-pub length-without : (x : ℕ) (xs : List ℕ) → length (without x xs) + times x xs ≡ length xs
-length-without x [] = refl
-length-without x (y ∷ ys) = by (y == x) refl (length-without x ys)
-  where
-    by : (b : Bool) → (y == x) ≡ b → length (without x ys) + times x ys ≡ length ys → length (without x (y ∷ ys)) + times x (y ∷ ys) ≡ length (y ∷ ys)
-    by true is rest = rw (sum_by-cons (λ z. cond (z == x) 1 0) y ys, is) (omega arith)
-    by false is rest = rw (sum_by-cons (λ z. cond (z == x) 1 0) y ys, is) (omega arith)
-
--- how often another number stands there, and that x doesn't
-pub times-without_other : (x z : ℕ) (xs : List ℕ) → z ≢ x → times z (without x xs) ≡ times z xs
-times-without_other x z [] other = refl
-times-without_other x z (y ∷ ys) other = by (y == x) refl (times-without_other x z ys other)
-  where
-    by : (b : Bool) → (y == x) ≡ b → times z (without x ys) ≡ times z ys → times z (without x (y ∷ ys)) ≡ times z (y ∷ ys)
-    by true is rest =
-        let no : (y == z) ≡ false = ne_eqb y z (λ e. other (sym e ∙ eqb-true y x is)) in
-        rw (sum_by-cons (λ w. cond (w == z) 1 0) y ys, is, no) (omega arith)
-    by false is rest = rw (sum_by-cons (λ w. cond (w == z) 1 0) y ys, is) (omega (arith, sum_by-cons (λ w. cond (w == z) 1 0) y (without x ys)))
-
-pub times-without_same : (x : ℕ) (xs : List ℕ) → times x (without x xs) ≡ 0
-times-without_same x [] = refl
-times-without_same x (y ∷ ys) = by (y == x) refl (times-without_same x ys)
-  where
-    by : (b : Bool) → (y == x) ≡ b → times x (without x ys) ≡ 0 → times x (without x (y ∷ ys)) ≡ 0
-    by true is rest = rw is rest
-    by false is rest = rw is (sum_by-cons (λ w. cond (w == x) 1 0) y (without x ys) ∙ rw is (omega arith))
-
-pub times-without-le : (x z : ℕ) (xs : List ℕ) → times z (without x xs) ≤ times z xs
-times-without-le x z xs = dite (ℕ_discrete z x)
-    (λ (same : z ≡ x). let none : times z (without x xs) ≡ 0 = ap (λ (n : ℕ). times n (without x xs)) same ∙ times-without_same x xs in omega arith)
-    (λ (other : z ≢ x). let is = times-without_other x z xs other in omega arith)

@@ -1,4 +1,4 @@
--- The greatest value of a function over a list.
+-- The greatest value over all views where one view changes.
 use Rattle.std.proofs.Common.{◌≡◌, ◌≢◌, ◌⊎◌, ℕ, zero, suc, ◌+◌, ◌<◌, ◌≤◌, max, Bool, true, false, List, [], ◌∷◌, ◌++◌, length, set, refl, sym, ap, ◌∙◌, subst, ⊎_elim, arith, get_or}
 use Rattle.std.specs.Prelude.{All, Contains, slice_index_or, ◌==◌, if◌then◌else◌}
 use mathlib.Core.Option.{some, some-ne-none, some-injective}
@@ -6,25 +6,10 @@ use mathlib.Core.Logic.{dite}
 use native.Mathlib.Decide.{ℕ_discrete}
 use lib.ListN.{get_elem?}
 use Rattle.atomic_table.proofs.Lists.{at_set, set_else}
-use Rattle.claim_rule.specs.Plan.{Plan, piece_of, top, word_on, best, final_of}
+use Rattle.claim_rule.specs.Plan.{top}
+use Rattle.claim_rule.specs.laws.Tops.{top_at, top_least, top-append}
 
 module _ {A : Type 0} (f : A → ℕ) where
-  pub top_at : (xs : List A) (i : ℕ) (v : A) → get_elem? xs i ≡ some v → f v ≤ top f xs
-  top_at [] i v at = absurd (some-ne-none v (sym at))
-  top_at (x ∷ xs) zero v at = let same = ap f (some-injective x v at) in omega arith
-  top_at (x ∷ xs) (suc i) v at = let rest = top_at xs i v at in omega arith
-
-  pub top_least : (xs : List A) (most : ℕ) → ((i : ℕ) (v : A) → get_elem? xs i ≡ some v → f v ≤ most) → top f xs ≤ most
-  top_least [] most below = omega arith
-  top_least (x ∷ xs) most below =
-      let here : f x ≤ most = below 0 x refl in
-      let rest : top f xs ≤ most = top_least xs most (λ i v at. below (suc i) v at) in
-      omega arith
-
-  pub top-append : (xs ys : List A) → top f (xs ++ ys) ≡ max (top f xs) (top f ys)
-  top-append [] ys = omega arith
-  top-append (x ∷ xs) ys = let rest = top-append xs ys in omega arith
-
   -- one view comes to have more
   pub top_set : (xs : List A) (i : ℕ) (v w : A) → get_elem? xs i ≡ some v → f v ≤ f w → top f (set xs i w) ≡ max (top f xs) (f w)
   top_set [] i v w at more = absurd (some-ne-none v (sym at))
@@ -35,19 +20,19 @@ module _ {A : Type 0} (f : A → ℕ) where
   top_set_same xs i v w at same =
       let more : f v ≤ f w = omega arith in
       let moved = top_set xs i v w at more in
-      let below = top_at xs i v at in
+      let below = top_at f xs i v at in
       omega arith
 
   -- one view comes to have nothing, while another has all that it had
   pub top_emptied : (xs : List A) (i j : ℕ) (u w s : A) → i ≢ j → get_elem? xs i ≡ some u → get_elem? xs j ≡ some w → f w ≤ f u → f s ≡ 0 → top f (set xs j s) ≡ top f xs
   top_emptied xs i j u w s apart at there held none =
-      let down : top f (set xs j s) ≤ top f xs = top_least (set xs j s) (top f xs)
-          (λ k x e. ⊎_elim (λ (t : (k ≡ j) × (s ≡ x)). let same = ap f t.1 in omega arith) (λ (t : (k ≢ j) × (get_elem? xs k ≡ some x)). top_at xs k x t.1) (at_set xs j k s x e)) in
-      let kept : f u ≤ top f (set xs j s) = top_at (set xs j s) i u (set_else xs j i s apart ∙ at) in
-      let up : top f xs ≤ top f (set xs j s) = top_least xs (top f (set xs j s))
+      let down : top f (set xs j s) ≤ top f xs = top_least f (set xs j s) (top f xs)
+          (λ k x e. ⊎_elim (λ (t : (k ≡ j) × (s ≡ x)). let same = ap f t.1 in omega arith) (λ (t : (k ≢ j) × (get_elem? xs k ≡ some x)). top_at f xs k x t.1) (at_set xs j k s x e)) in
+      let kept : f u ≤ top f (set xs j s) = top_at f (set xs j s) i u (set_else xs j i s apart ∙ at) in
+      let up : top f xs ≤ top f (set xs j s) = top_least f xs (top f (set xs j s))
           (λ k x e. dite (ℕ_discrete k j)
               (λ (same : k ≡ j). let is : x ≡ w = some-injective x w (sym e ∙ ap (λ (n : ℕ). get_elem? xs n) same ∙ there) in let fs = ap f is in omega arith)
-              (λ (other : k ≢ j). top_at (set xs j s) k x (set_else xs j k s other ∙ e))) in
+              (λ (other : k ≢ j). top_at f (set xs j s) k x (set_else xs j k s other ∙ e))) in
       omega arith
 
   pub top_joined : (xs : List A) (i j : ℕ) (v w both spent : A) → i ≢ j → get_elem? xs i ≡ some v → get_elem? (set xs i both) i ≡ some both → get_elem? (set xs i both) j ≡ some w → get_elem? xs j ≡ some w → f both ≡ max (f v) (f w) → f spent ≡ 0 → top f (set (set xs i both) j spent) ≡ top f xs
@@ -56,37 +41,12 @@ module _ {A : Type 0} (f : A → ℕ) where
       let held : f w ≤ f both = omega arith in
       let one = top_set xs i v both at more in
       let two = top_emptied (set xs i both) i j both w spent apart here there held none in
-      let a = top_at xs i v at in
-      let b = top_at xs j w was in
+      let a = top_at f xs i v at in
+      let b = top_at f xs j w was in
       omega arith
 
   pub top_split : (xs : List A) (i : ℕ) (v left right : A) → get_elem? xs i ≡ some v → f left ≡ f v → f right ≡ 0 → top f (set xs i left ++ right ∷ []) ≡ top f xs
   top_split xs i v left right at same none =
       let one = top_set_same xs i v left at same in
-      let two : top f (set xs i left ++ right ∷ []) ≡ max (top f (set xs i left)) (max (f right) 0) = top-append (set xs i left) (right ∷ []) in
+      let two : top f (set xs i left ++ right ∷ []) ≡ max (top f (set xs i left)) (max (f right) 0) = top-append f (set xs i left) (right ∷ []) in
       omega arith
-
--- lists by their elements
-module _ {A : Type 0} where
-  pub contains_at : (xs : List A) (x : A) → Contains xs x → (i : ℕ) × (get_elem? xs i ≡ some x)
-  contains_at xs x (k, below, is) = (k, at xs k below is)
-    where
-      at : (ys : List A) (i : ℕ) → i < length ys → slice_index_or ys i x ≡ x → get_elem? ys i ≡ some x
-      at [] i h e = absurd (omega arith)
-      at (y ∷ ys) zero h e = ap some e
-      at (y ∷ ys) (suc i) h e = at ys i (omega arith) e
-
--- the word of a pair among the claims is at most the best on its row
-pub best_at : (pairs : List (ℕ × ℕ)) (row : ℕ) (pair : ℕ × ℕ) → Contains pairs pair → word_on row pair ≤ best row pairs
-best_at pairs row pair has = let at = contains_at pairs pair has in top_at (word_on row) pairs at.0 pair at.1
-
--- the pieces of a plan
-pub piece_below : (plan : Plan) (x row : ℕ) → best row (piece_of plan x) ≤ final_of plan row
-piece_below [] x row = omega arith
-piece_below (p ∷ ps) zero row = omega arith
-piece_below (p ∷ ps) (suc x) row = let rest = piece_below ps x row in omega arith
-
-pub piece_at : (plan : Plan) (x : ℕ) (pairs : List (ℕ × ℕ)) → get_elem? plan x ≡ some pairs → (piece_of plan x ≡ pairs) × (x < length plan)
-piece_at [] x pairs at = absurd (some-ne-none pairs (sym at))
-piece_at (p ∷ ps) zero pairs at = (some-injective p pairs at, omega arith)
-piece_at (p ∷ ps) (suc x) pairs at = let rest = piece_at ps x pairs at in (rest.0, let below = rest.1 in omega arith)

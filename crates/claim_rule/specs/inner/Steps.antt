@@ -16,16 +16,16 @@ abbrev pub drawn_at : ℕ → ℕ → Option ℕ
 drawn_at found n = if nat_lt found n then Some found else None
 
 -- a draw: the seat lacked what it gives, and had drawn fewer numbers than there are pieces
-pub record Draws_from (draws : ClaimView → Draws) (after : Option ℕ → ClaimView → ClaimView) (me : Seated) (found : ℕ) (now : Seated) : Type 0 where
+pub record DrawsFrom (draws : ClaimView → Draws) (after : Option ℕ → ClaimView → ClaimView) (me : Seated) (found : ℕ) (now : Seated) : Type 0 where
   pub leaves : now ≡ (after (drawn_at found (length me.0.plan)) me.0, me.1)
   pub new : found < length me.0.plan → times found (draws me.0).numbers ≡ 0
   pub room : found < length me.0.plan → length (draws me.0).numbers < length me.0.plan
 
 abbrev pub DrawsClaim : Step (Unit {0}) → Seated → ℕ → Seated → Type 0
-DrawsClaim _ = Draws_from (λ v. v.claiming) claim_drawn
+DrawsClaim _ = DrawsFrom (λ v. v.claiming) claim_drawn
 
 abbrev pub DrawsJudge : Step (Unit {0}) → Seated → ℕ → Seated → Type 0
-DrawsJudge _ = Draws_from (λ v. v.judging) judge_drawn
+DrawsJudge _ = DrawsFrom (λ v. v.judging) judge_drawn
 
 -- the header of row r is word r + 3
 abbrev pub ClaimsRow : Step (Unit {0}) → Seated → ℕ → Seated → Type 0
