@@ -40,10 +40,10 @@ module _ (rows : ℕ) (plan : Plan) (claimed done judged : ℕ) (headers : List 
   planned_below : (v : ClaimView) → Fits plan done v → (row : ℕ) → best row v.claims ≤ final_of plan row
   planned_below v fits row = top_least (word_on row) v.claims (final_of plan row)
       (λ i pair at.
-          let p = each_at (IsPlanned plan v) v.claims i pair fits.planned at in
-          let low = best_at (piece_of plan p.0) row pair p.2 in
-          let high = piece_below plan p.0 row in
-          omega arith)
+      let p = each_at (IsPlanned plan v) v.claims i pair fits.planned at in
+      let low = best_at (piece_of plan p.0) row pair p.2 in
+      let high = piece_below plan p.0 row in
+      omega arith)
 
   header_below : (row : ℕ) → top (λ v. best row v.claims) views ≤ final_of plan row
   header_below row = top_least (λ v. best row v.claims) views (final_of plan row) (λ i v at. planned_below v (fits_at i v at) row)
@@ -52,21 +52,21 @@ module _ (rows : ℕ) (plan : Plan) (claimed done judged : ℕ) (headers : List 
   header_above : done ≡ length plan → (row : ℕ) → final_of plan row ≤ top (λ v. best row v.claims) views
   header_above all row = top_least (best row) plan (top (λ v. best row v.claims) views)
       (λ x pairs at.
-          let piece = piece_at plan x pairs at in
-          let count = r.finished in
-          let drawn = r.claiming.drawn in
-          let most : min claimed (length plan) ≡ length plan = omega arith in
-          let none : sum_by (λ v. length v.pending) views ≡ 0 = omega arith in
-          let one : sum_by (λ v. times x v.claiming.numbers) views ≡ 1 = r.claiming.once x ∙ ap (once_below x) most ∙ once_there x (length plan) piece.1 in
-          let some_one : 0 < sum_by (λ v. times x v.claiming.numbers) views = omega arith in
-          let seat = sum_some (λ v. times x v.claiming.numbers) views some_one in
-          let fits = fits_at seat.0 seat.1 seat.2 in
-          let few = sum_at (λ v. length v.pending) views seat.0 seat.1 seat.2 in
-          let bare : length seat.1.pending ≡ 0 = omega arith in
-          let made = fits.made x record { drawn = seat.3; over = times_none x seat.1.pending bare } in
-          let low : best row pairs ≤ best row seat.1.claims = best_among row pairs seat.1.claims (subst (λ (l : List (ℕ × ℕ)). All (Contains seat.1.claims) l) piece.0 made) in
-          let high = top_at (λ v. best row v.claims) views seat.0 seat.1 seat.2 in
-          omega arith)
+      let piece = piece_at plan x pairs at in
+      let count = r.finished in
+      let drawn = r.claiming.drawn in
+      let most : min claimed (length plan) ≡ length plan = omega arith in
+      let none : sum_by (λ v. length v.pending) views ≡ 0 = omega arith in
+      let one : sum_by (λ v. times x v.claiming.numbers) views ≡ 1 = r.claiming.once x ∙ ap (once_below x) most ∙ once_there x (length plan) piece.1 in
+      let some_one : 0 < sum_by (λ v. times x v.claiming.numbers) views = omega arith in
+      let seat = sum_some (λ v. times x v.claiming.numbers) views some_one in
+      let fits = fits_at seat.0 seat.1 seat.2 in
+      let few = sum_at (λ v. length v.pending) views seat.0 seat.1 seat.2 in
+      let bare : length seat.1.pending ≡ 0 = omega arith in
+      let made = fits.made x record { drawn = seat.3; over = times_none x seat.1.pending bare } in
+      let low : best row pairs ≤ best row seat.1.claims = best_among row pairs seat.1.claims (subst (λ (l : List (ℕ × ℕ)). All (Contains seat.1.claims) l) piece.0 made) in
+      let high = top_at (λ v. best row v.claims) views seat.0 seat.1 seat.2 in
+      omega arith)
 
   -- a header that is read once all pieces are finished is the final word
   pub header_final : done ≡ length plan → (row : ℕ) → row < rows → slice_index headers row ≡ final_of plan row

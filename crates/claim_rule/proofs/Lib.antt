@@ -5,6 +5,6 @@ mod Finals
 mod Moves
 mod Sharing
 mod Words
-
 mod Stepping
 mod Rows
+mod Trials

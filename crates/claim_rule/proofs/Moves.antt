@@ -131,56 +131,56 @@ module _ (rows : ℕ) (plan : Plan) (claimed done judged : ℕ) (headers : List 
   draw_judge_some some_share flag below =
       let w = judge_drawn (Some judged) v in
       judged_so w (judged + 1) refl refl refl refl refl refl
-          record {
-            opened = mine.opened;
-            same = mine.same;
-            empty = λ none. absurd (omega arith);
-            drawn = mine.drawn;
-            made = λ x f. mine.made x record { drawn = f.drawn; over = f.over };
-            planned = planned_more plan v w (λ x. let e : times x v.claiming.numbers ≡ times x w.claiming.numbers = refl in omega arith) v.claims mine.planned;
-            stable = mine.stable;
-            judging = λ off. absurd (true≢false (sym flag ∙ off));
-            late_claiming = mine.late_claiming;
-            late_judging = mine.late_judging;
-          }
-          (drawn_some judged (length plan) (λ u. u.judging) views r.judging id v w at below refl)
+      record {
+        opened = mine.opened;
+        same = mine.same;
+        empty = λ none. absurd (omega arith);
+        drawn = mine.drawn;
+        made = λ x f. mine.made x record { drawn = f.drawn; over = f.over };
+        planned = planned_more plan v w (λ x. let e : times x v.claiming.numbers ≡ times x w.claiming.numbers = refl in omega arith) v.claims mine.planned;
+        stable = mine.stable;
+        judging = λ off. absurd (true≢false (sym flag ∙ off));
+        late_claiming = mine.late_claiming;
+        late_judging = mine.late_judging;
+      }
+      (drawn_some judged (length plan) (λ u. u.judging) views r.judging id v w at below refl)
 
   pub draw_judge_none : 0 < v.shares → v.stable ≡ true → length plan ≤ judged → v.judging.spent < v.shares → IsRuled rows plan claimed done (judged + 1) headers (set views id (judge_drawn None v))
   draw_judge_none some_share flag above unspent =
       let w = judge_drawn None v in
       judged_so w (judged + 1) refl refl refl refl refl refl
-          record {
-            opened = mine.opened;
-            same = mine.same;
-            empty = λ none. absurd (omega arith);
-            drawn = mine.drawn;
-            made = λ x f. mine.made x record { drawn = f.drawn; over = f.over };
-            planned = planned_more plan v w (λ x. let e : times x v.claiming.numbers ≡ times x w.claiming.numbers = refl in omega arith) v.claims mine.planned;
-            stable = mine.stable;
-            judging = mine.judging;
-            late_claiming = mine.late_claiming;
-            late_judging = omega arith;
-          }
-          (drawn_none judged (length plan) (λ u. u.judging) views r.judging id v w at above refl)
+      record {
+        opened = mine.opened;
+        same = mine.same;
+        empty = λ none. absurd (omega arith);
+        drawn = mine.drawn;
+        made = λ x f. mine.made x record { drawn = f.drawn; over = f.over };
+        planned = planned_more plan v w (λ x. let e : times x v.claiming.numbers ≡ times x w.claiming.numbers = refl in omega arith) v.claims mine.planned;
+        stable = mine.stable;
+        judging = mine.judging;
+        late_claiming = mine.late_claiming;
+        late_judging = omega arith;
+      }
+      (drawn_none judged (length plan) (λ u. u.judging) views r.judging id v w at above refl)
 
   pub see_done : 0 < v.shares → IsRuled rows plan claimed done judged headers (set views id (done_seen done v))
   see_done some_share =
       let w = done_seen done v in
       let known : v.plan ≡ plan = mine.same some_share in
       judged_so w judged refl refl refl refl refl refl
-          record {
-            opened = mine.opened;
-            same = mine.same;
-            empty = λ none. absurd (omega arith);
-            drawn = mine.drawn;
-            made = λ x f. mine.made x record { drawn = f.drawn; over = f.over };
-            planned = planned_more plan v w (λ x. let e : times x v.claiming.numbers ≡ times x w.claiming.numbers = refl in omega arith) v.claims mine.planned;
-            stable = λ on. eqb-true done (length v.plan) on ∙ ap length known;
-            judging = λ off. by v.stable refl off;
-            late_claiming = mine.late_claiming;
-            late_judging = mine.late_judging;
-          }
-          (drawn_same judged (length plan) (λ u. u.judging) views r.judging id v w at refl)
+      record {
+        opened = mine.opened;
+        same = mine.same;
+        empty = λ none. absurd (omega arith);
+        drawn = mine.drawn;
+        made = λ x f. mine.made x record { drawn = f.drawn; over = f.over };
+        planned = planned_more plan v w (λ x. let e : times x v.claiming.numbers ≡ times x w.claiming.numbers = refl in omega arith) v.claims mine.planned;
+        stable = λ on. eqb-true done (length v.plan) on ∙ ap length known;
+        judging = λ off. by v.stable refl off;
+        late_claiming = mine.late_claiming;
+        late_judging = mine.late_judging;
+      }
+      (drawn_same judged (length plan) (λ u. u.judging) views r.judging id v w at refl)
     where
       by : (b : Bool) → v.stable ≡ b → (done == length v.plan) ≡ false → v.judging.numbers ≡ []
       by true on off = absurd (true≢false (sym (eq-eqb done (length v.plan) (mine.stable on ∙ sym (ap length (mine.same some_share)))) ∙ off))
@@ -234,12 +234,12 @@ module _ (rows : ℕ) (plan : Plan) (claimed done judged : ℕ) (headers : List 
       raised : (other : ℕ) → row < length headers → slice_index (set headers row (max (slice_index headers row) word)) other ≡ max (slice_index headers other) (word_on other (row, word))
       raised other inside = dite (ℕ_discrete other row)
           (λ (same : other ≡ row).
-              let on : word_on other (row, word) ≡ word = ap (λ (b : Bool). cond b word 0) (eq-eqb row other (sym same)) in
-              let put : slice_index (set headers row (max (slice_index headers row) word)) row ≡ max (slice_index headers row) word = get_or-set_same headers row (max (slice_index headers row) word) 0 inside in
-              ap (slice_index (set headers row (max (slice_index headers row) word))) same ∙ put ∙ (let there = ap (slice_index headers) same in omega arith))
+          let on : word_on other (row, word) ≡ word = ap (λ (b : Bool). cond b word 0) (eq-eqb row other (sym same)) in
+          let put : slice_index (set headers row (max (slice_index headers row) word)) row ≡ max (slice_index headers row) word = get_or-set_same headers row (max (slice_index headers row) word) 0 inside in
+          ap (slice_index (set headers row (max (slice_index headers row) word))) same ∙ put ∙ (let there = ap (slice_index headers) same in omega arith))
           (λ (apart : other ≢ row).
-              let off : word_on other (row, word) ≡ 0 = ap (λ (b : Bool). cond b word 0) (ne_eqb row other (λ e. apart (sym e))) in
-              get_or-set_other headers row other (max (slice_index headers row) word) 0 apart ∙ (omega arith))
+          let off : word_on other (row, word) ≡ 0 = ap (λ (b : Bool). cond b word 0) (ne_eqb row other (λ e. apart (sym e))) in
+          get_or-set_other headers row other (max (slice_index headers row) word) 0 apart ∙ (omega arith))
 
   -- ---- finish a piece
 
@@ -251,18 +251,18 @@ module _ (rows : ℕ) (plan : Plan) (claimed done judged : ℕ) (headers : List 
       let some_share = some_shares v plan done mine some_pending in
       let open_still = undone rows plan claimed done judged headers views r id v at some_pending in
       let others : (u : ClaimView) → Fits plan done u → Fits plan (done + 1) u =
-          (λ (u : ClaimView) (f : Fits plan done u). record {
-            opened = f.opened;
-            same = f.same;
-            empty = f.empty;
-            drawn = f.drawn;
-            made = f.made;
-            planned = f.planned;
-            stable = λ on. let all = f.stable on in absurd (omega arith);
-            judging = f.judging;
-            late_claiming = f.late_claiming;
-            late_judging = f.late_judging;
-          }) in
+      (λ (u : ClaimView) (f : Fits plan done u). record {
+        opened = f.opened;
+        same = f.same;
+        empty = f.empty;
+        drawn = f.drawn;
+        made = f.made;
+        planned = f.planned;
+        stable = λ on. let all = f.stable on in absurd (omega arith);
+        judging = f.judging;
+        late_claiming = f.late_claiming;
+        late_judging = f.late_judging;
+      }) in
       let one_only : times x v.pending ≤ 1 = (let d = mine.drawn x in let o = drawn_once claimed (length plan) (λ u. u.claiming) views r.claiming id v at x in omega arith) in
       record {
         fits = All-set (Fits plan (done + 1)) views id w record {

@@ -174,11 +174,11 @@ module _ (rows : ℕ) (plan : Plan) (claimed done judged : ℕ) (headers : List 
 pub opens : (rows : ℕ) (plan : Plan) (shares : ℕ) → length plan < 2 ^ 32 → 0 < shares → shares ≤ 8 → IsRuled rows plan 0 0 0 (replicate rows 0) (fresh plan shares false ∷ [])
 opens rows plan shares few some_share most =
     let drawn : (draws : ClaimView → Draws) → draws (fresh plan shares false) ≡ no_draws → AreDrawn 0 (length plan) draws (fresh plan shares false ∷ []) =
-        (λ (draws : ClaimView → Draws) (none : draws (fresh plan shares false) ≡ no_draws). record {
-          once = λ x. ap (λ (d : Draws). 0 + times x d.numbers) none ∙ none_below x;
-          drawn = ap (λ (d : Draws). 0 + length d.numbers) none ∙ (omega arith);
-          counted = ap (λ (d : Draws). 0 + (length d.numbers + d.spent)) none;
-        }) in
+    (λ (draws : ClaimView → Draws) (none : draws (fresh plan shares false) ≡ no_draws). record {
+      once = λ x. ap (λ (d : Draws). 0 + times x d.numbers) none ∙ none_below x;
+      drawn = ap (λ (d : Draws). 0 + length d.numbers) none ∙ (omega arith);
+      counted = ap (λ (d : Draws). 0 + (length d.numbers + d.spent)) none;
+    }) in
     record {
       fits = All-cons (Fits plan 0) (fresh plan shares false) [] (fresh_fits plan 0 shares false some_share (λ on. absurd (true≢false (sym on)))) (All-nil (Fits plan 0));
       claiming = drawn (λ v. v.claiming) refl;

@@ -118,10 +118,13 @@ module _ (rows slots id : ℕ) (me : Seated) (opened : me.0.closed ≡ false) (s
     once_told = (
       me.0,
       same_views,
-      (refl, record {
-        claiming = drawn_once claimed (length plan) (λ u. u.claiming) views r.claiming id me.0 at;
-        judging = drawn_once judged (length plan) (λ u. u.judging) views r.judging id me.0 at;
-      }),
+      (
+        refl,
+        record {
+          claiming = drawn_once claimed (length plan) (λ u. u.claiming) views r.claiming id me.0 at;
+          judging = drawn_once judged (length plan) (λ u. u.judging) views r.judging id me.0 at;
+        },
+      ),
     )
 
   -- ---- the goals of the calls
@@ -173,24 +176,27 @@ pub opens_as : (rows slots id : ℕ) (me : Seated) (plan : Plan) (shares : ℕ) 
     → Allows (Holds rows) slots id me 0 (λ n. n) (λ found now. now ≡ (fresh plan shares false, me.1))
 opens_as rows slots id me plan shares closed few some_share most s holds deep at small = ⊎_elim
     (λ (c : IsClosed rows s).
-        let w = fresh plan shares false in
-        let first : (views : List ClaimView) → views ≡ closed_view ∷ [] → get_elem? views id ≡ some me.0 → set views id w ≡ w ∷ [] =
-            (λ (views : List ClaimView) (only : views ≡ closed_view ∷ []) (here : get_elem? views id ≡ some me.0). ap (λ (l : List ClaimView). set l id w) only ∙ alone id w me.0 (sym (ap (λ (l : List ClaimView). get_elem? l id) only) ∙ here)) in
-        (w, keeps, tt,
-          inr record {
-            plan = plan;
-            claimed = 0;
-            done = 0;
-            judged = 0;
-            headers = replicate rows 0;
-            words = set-get_or s.words 0 0 ∙ c.words;
-            ruled = subst (IsRuled rows plan 0 0 0 (replicate rows 0)) (sym (first s.views c.views at)) (opens rows plan shares few some_share most);
-          },
-          refl))
+    let w = fresh plan shares false in
+    let first : (views : List ClaimView) → views ≡ closed_view ∷ [] → get_elem? views id ≡ some me.0 → set views id w ≡ w ∷ [] =
+    (λ (views : List ClaimView) (only : views ≡ closed_view ∷ []) (here : get_elem? views id ≡ some me.0). ap (λ (l : List ClaimView). set l id w) only ∙ alone id w me.0 (sym (ap (λ (l : List ClaimView). get_elem? l id) only) ∙ here)) in (
+      w,
+      keeps,
+      tt,
+      inr record {
+        plan = plan;
+        claimed = 0;
+        done = 0;
+        judged = 0;
+        headers = replicate rows 0;
+        words = set-get_or s.words 0 0 ∙ c.words;
+        ruled = subst (IsRuled rows plan 0 0 0 (replicate rows 0)) (sym (first s.views c.views at)) (opens rows plan shares few some_share most);
+      },
+      refl,
+    ))
     (λ (o : IsOpen rows s).
-        let ruled = o.ruled in
-        let fits = fits_at rows o.plan o.claimed o.done o.judged o.headers s.views ruled id me.0 at in
-        absurd (true≢false (sym (ap (λ (u : ClaimView). u.closed) closed) ∙ fits.opened)))
+    let ruled = o.ruled in
+    let fits = fits_at rows o.plan o.claimed o.done o.judged o.headers s.views ruled id me.0 at in
+    absurd (true≢false (sym (ap (λ (u : ClaimView). u.closed) closed) ∙ fits.opened)))
     holds
   where
     alone : (k : ℕ) (w v : ClaimView) → get_elem? (closed_view ∷ []) k ≡ some v → set (closed_view ∷ []) k w ≡ w ∷ []

@@ -27,12 +27,12 @@ module _ {A : Type 0} (f : A → ℕ) where
   pub top_emptied : (xs : List A) (i j : ℕ) (u w s : A) → i ≢ j → get_elem? xs i ≡ some u → get_elem? xs j ≡ some w → f w ≤ f u → f s ≡ 0 → top f (set xs j s) ≡ top f xs
   top_emptied xs i j u w s apart at there held none =
       let down : top f (set xs j s) ≤ top f xs = top_least f (set xs j s) (top f xs)
-          (λ k x e. ⊎_elim (λ (t : (k ≡ j) × (s ≡ x)). let same = ap f t.1 in omega arith) (λ (t : (k ≢ j) × (get_elem? xs k ≡ some x)). top_at f xs k x t.1) (at_set xs j k s x e)) in
+      (λ k x e. ⊎_elim (λ (t : (k ≡ j) × (s ≡ x)). let same = ap f t.1 in omega arith) (λ (t : (k ≢ j) × (get_elem? xs k ≡ some x)). top_at f xs k x t.1) (at_set xs j k s x e)) in
       let kept : f u ≤ top f (set xs j s) = top_at f (set xs j s) i u (set_else xs j i s apart ∙ at) in
       let up : top f xs ≤ top f (set xs j s) = top_least f xs (top f (set xs j s))
-          (λ k x e. dite (ℕ_discrete k j)
-              (λ (same : k ≡ j). let is : x ≡ w = some-injective x w (sym e ∙ ap (λ (n : ℕ). get_elem? xs n) same ∙ there) in let fs = ap f is in omega arith)
-              (λ (other : k ≢ j). top_at f (set xs j s) k x (set_else xs j k s other ∙ e))) in
+      (λ k x e. dite (ℕ_discrete k j)
+      (λ (same : k ≡ j). let is : x ≡ w = some-injective x w (sym e ∙ ap (λ (n : ℕ). get_elem? xs n) same ∙ there) in let fs = ap f is in omega arith)
+      (λ (other : k ≢ j). top_at f (set xs j s) k x (set_else xs j k s other ∙ e))) in
       omega arith
 
   pub top_joined : (xs : List A) (i j : ℕ) (v w both spent : A) → i ≢ j → get_elem? xs i ≡ some v → get_elem? (set xs i both) i ≡ some both → get_elem? (set xs i both) j ≡ some w → get_elem? xs j ≡ some w → f both ≡ max (f v) (f w) → f spent ≡ 0 → top f (set (set xs i both) j spent) ≡ top f xs

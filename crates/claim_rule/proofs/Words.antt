@@ -32,7 +32,7 @@ module _ (rows id : ℕ) (me : Seated) where
 
   on_open : (slots word : ℕ) (f : ℕ → ℕ) (then : ℕ → Seated → Type 0) → me.0.closed ≡ false
       → ((homes : List (maybe.Option (Unit {0}))) (views : List ClaimView) (plan : Plan) (claimed done judged : ℕ) (headers : List ℕ) → IsRuled rows plan claimed done judged headers views → get_elem? views id ≡ some me.0
-          → Goes homes views word f then (claimed ∷ done ∷ judged ∷ headers))
+      → Goes homes views word f then (claimed ∷ done ∷ judged ∷ headers))
       → Allows (Holds rows) slots id me word f then
   on_open slots word f then opened go s holds deep at fits = ⊎_elim
       (λ (c : IsClosed rows s). absurd (not_closed s.views id me.0 c.views at opened))
@@ -41,50 +41,50 @@ module _ (rows id : ℕ) (me : Seated) where
 
   pub on_claimed : (slots word : ℕ) (f : ℕ → ℕ) (then : ℕ → Seated → Type 0) → word ≡ 0 → me.0.closed ≡ false
       → ((views : List ClaimView) (plan : Plan) (claimed done judged : ℕ) (headers : List ℕ) → IsRuled rows plan claimed done judged headers views → get_elem? views id ≡ some me.0
-          → Steps views plan (f claimed) done judged headers claimed then)
+      → Steps views plan (f claimed) done judged headers claimed then)
       → Allows (Holds rows) slots id me word f then
   on_claimed slots word f then first opened go = on_open slots word f then opened
       (λ homes views plan claimed done judged headers r at.
-          let step = go views plan claimed done judged headers r at in
-          subst (λ (i : ℕ). Goes homes views i f then (claimed ∷ done ∷ judged ∷ headers)) (sym first)
-              (step.0, keeps, tt, inr record { plan = plan; claimed = f claimed; done = done; judged = judged; headers = headers; words = refl; ruled = step.1 }, step.2))
+      let step = go views plan claimed done judged headers r at in
+      subst (λ (i : ℕ). Goes homes views i f then (claimed ∷ done ∷ judged ∷ headers)) (sym first)
+      (step.0, keeps, tt, inr record { plan = plan; claimed = f claimed; done = done; judged = judged; headers = headers; words = refl; ruled = step.1 }, step.2))
 
   pub on_done : (slots word : ℕ) (f : ℕ → ℕ) (then : ℕ → Seated → Type 0) → word ≡ 1 → me.0.closed ≡ false
       → ((views : List ClaimView) (plan : Plan) (claimed done judged : ℕ) (headers : List ℕ) → IsRuled rows plan claimed done judged headers views → get_elem? views id ≡ some me.0
-          → Steps views plan claimed (f done) judged headers done then)
+      → Steps views plan claimed (f done) judged headers done then)
       → Allows (Holds rows) slots id me word f then
   on_done slots word f then first opened go = on_open slots word f then opened
       (λ homes views plan claimed done judged headers r at.
-          let step = go views plan claimed done judged headers r at in
-          subst (λ (i : ℕ). Goes homes views i f then (claimed ∷ done ∷ judged ∷ headers)) (sym first)
-              (step.0, keeps, tt, inr record { plan = plan; claimed = claimed; done = f done; judged = judged; headers = headers; words = refl; ruled = step.1 }, step.2))
+      let step = go views plan claimed done judged headers r at in
+      subst (λ (i : ℕ). Goes homes views i f then (claimed ∷ done ∷ judged ∷ headers)) (sym first)
+      (step.0, keeps, tt, inr record { plan = plan; claimed = claimed; done = f done; judged = judged; headers = headers; words = refl; ruled = step.1 }, step.2))
 
   pub on_judged : (slots word : ℕ) (f : ℕ → ℕ) (then : ℕ → Seated → Type 0) → word ≡ 2 → me.0.closed ≡ false
       → ((views : List ClaimView) (plan : Plan) (claimed done judged : ℕ) (headers : List ℕ) → IsRuled rows plan claimed done judged headers views → get_elem? views id ≡ some me.0
-          → Steps views plan claimed done (f judged) headers judged then)
+      → Steps views plan claimed done (f judged) headers judged then)
       → Allows (Holds rows) slots id me word f then
   on_judged slots word f then first opened go = on_open slots word f then opened
       (λ homes views plan claimed done judged headers r at.
-          let step = go views plan claimed done judged headers r at in
-          subst (λ (i : ℕ). Goes homes views i f then (claimed ∷ done ∷ judged ∷ headers)) (sym first)
-              (step.0, keeps, tt, inr record { plan = plan; claimed = claimed; done = done; judged = f judged; headers = headers; words = refl; ruled = step.1 }, step.2))
+      let step = go views plan claimed done judged headers r at in
+      subst (λ (i : ℕ). Goes homes views i f then (claimed ∷ done ∷ judged ∷ headers)) (sym first)
+      (step.0, keeps, tt, inr record { plan = plan; claimed = claimed; done = done; judged = f judged; headers = headers; words = refl; ruled = step.1 }, step.2))
 
   pub on_header : (slots word row : ℕ) (f : ℕ → ℕ) (then : ℕ → Seated → Type 0) → word ≡ row + 3 → me.0.closed ≡ false
       → ((views : List ClaimView) (plan : Plan) (claimed done judged : ℕ) (headers : List ℕ) → IsRuled rows plan claimed done judged headers views → get_elem? views id ≡ some me.0
-          → Steps views plan claimed done judged (set headers row (f (slice_index headers row))) (slice_index headers row) then)
+      → Steps views plan claimed done judged (set headers row (f (slice_index headers row))) (slice_index headers row) then)
       → Allows (Holds rows) slots id me word f then
   on_header slots word row f then behind opened go = on_open slots word f then opened
       (λ homes views plan claimed done judged headers r at.
-          let step = go views plan claimed done judged headers r at in
-          let third : suc (suc (suc row)) ≡ word = omega arith in
-          subst (λ (i : ℕ). Goes homes views i f then (claimed ∷ done ∷ judged ∷ headers)) third
-              (step.0, keeps, tt, inr record { plan = plan; claimed = claimed; done = done; judged = judged; headers = set headers row (f (slice_index headers row)); words = refl; ruled = step.1 }, step.2))
+      let step = go views plan claimed done judged headers r at in
+      let third : suc (suc (suc row)) ≡ word = omega arith in
+      subst (λ (i : ℕ). Goes homes views i f then (claimed ∷ done ∷ judged ∷ headers)) third
+      (step.0, keeps, tt, inr record { plan = plan; claimed = claimed; done = done; judged = judged; headers = set headers row (f (slice_index headers row)); words = refl; ruled = step.1 }, step.2))
 
 -- ---- split and join
 
 pub splits_by : (rows id : ℕ) (v left right : ClaimView) → v.closed ≡ false
     → ((views : List ClaimView) (plan : Plan) (claimed done judged : ℕ) (headers : List ℕ) → IsRuled rows plan claimed done judged headers views → get_elem? views id ≡ some v
-        → IsRuled rows plan claimed done judged headers (set views id left ++ right ∷ []))
+    → IsRuled rows plan claimed done judged headers (set views id left ++ right ∷ []))
     → Splits (Holds rows) id v left right
 splits_by rows id v left right opened go s holds at = ⊎_elim
     (λ (c : IsClosed rows s). absurd (not_closed s.views id v c.views at opened))
@@ -93,7 +93,7 @@ splits_by rows id v left right opened go s holds at = ⊎_elim
 
 pub joins_by : (rows id : ℕ) (v : ClaimView) (other : ℕ) (w both spent : ClaimView) → v.closed ≡ false
     → ((views : List ClaimView) (plan : Plan) (claimed done judged : ℕ) (headers : List ℕ) → IsRuled rows plan claimed done judged headers views → get_elem? views id ≡ some v → other ≢ id → get_elem? (set views id both) other ≡ some w
-        → IsRuled rows plan claimed done judged headers (set (set views id both) other spent))
+    → IsRuled rows plan claimed done judged headers (set (set views id both) other spent))
     → Joins (Holds rows) id v other w both spent
 joins_by rows id v other w both spent opened go s holds at apart there = ⊎_elim
     (λ (c : IsClosed rows s). absurd (not_closed s.views id v c.views at opened))

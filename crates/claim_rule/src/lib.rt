@@ -7,6 +7,8 @@ mod seat;
 mod seats;
 mod steps;
 mod table;
+#[cfg(test)]
+mod tests;
 mod view;
 
 pub use plan::ClaimPlan;

@@ -69,9 +69,7 @@ impl ClaimTable {
         ensures view { view_of seat.new ≡ fresh Q.plan Q.shares false }
     {
         let _pieces = self.pieces;
-        self.table
-            .shared
-            .load::<Open<Q>>(&mut seat.seat, CLAIMED);
+        self.table.shared.load::<Open<Q>>(&mut seat.seat, CLAIMED);
     }
 
     // Deals a seat with one share to each worker.

@@ -20,7 +20,10 @@ impl ClaimTable {
         ensures view { view_of seat.new ≡ claim_drawn result (view_of seat.old) }
         ensures number { DrawTells (length (view_of seat.old).plan) (view_of seat.old).claiming result }
     {
-        let found = self.table.shared.fetch_add::<DrawClaim>(&mut seat.seat, CLAIMED, 1);
+        let found = self
+            .table
+            .shared
+            .fetch_add::<DrawClaim>(&mut seat.seat, CLAIMED, 1);
         if found < self.pieces as u64 {
             Some(found as u32)
         } else {
@@ -82,7 +85,10 @@ impl ClaimTable {
         ensures view { view_of seat.new ≡ judge_drawn result (view_of seat.old) }
         ensures number { DrawTells (length (view_of seat.old).plan) (view_of seat.old).judging result }
     {
-        let found = self.table.shared.fetch_add::<DrawJudge>(&mut seat.seat, JUDGED, 1);
+        let found = self
+            .table
+            .shared
+            .fetch_add::<DrawJudge>(&mut seat.seat, JUDGED, 1);
         if found < self.pieces as u64 {
             Some(found as u32)
         } else {
