@@ -1,6 +1,6 @@
 //! What no clause says: that counters start at 0 and draws come in their order, and that seats of several
 //! threads come to an end of a plan.
-ghost use Rattle.std.specs.Prelude.{◌≡◌, ◌<◌, true, All, IfSome};
+ghost use Rattle.std.specs.Prelude.{◌≡◌, ◌+◌, ◌<◌, true, All, IfSome};
 ghost use Rattle.claim_rule.specs.Seats.{view_of, rows_of, IsFreshSeatOf};
 ghost use Rattle.claim_rule.specs.Views.{piece_finished};
 ghost use Rattle.claim_rule.specs.inner.Trial.{three_pieces, Plays, IsAtWork, pairs_claimed};
@@ -67,7 +67,10 @@ fn headers(table: &ClaimTable, seat: &mut ClaimSeat) -> [u64; 3]
 fn claim_all(table: &ClaimTable, seat: &mut ClaimSeat)
     requires plays { Plays table.now seat.old }
     requires unspent { (view_of seat.old).claiming.spent < (view_of seat.old).shares }
-    ensures { Plays table.now seat.new }
+    ensures plays { Plays table.now seat.new }
+    ensures late { (view_of seat.new).claiming.spent ≡ (view_of seat.old).claiming.spent + 1 }
+    ensures shares { (view_of seat.new).shares ≡ (view_of seat.old).shares }
+    ensures judging { (view_of seat.new).judging ≡ (view_of seat.old).judging }
 {
     while let Some(piece) = table.draw_claim(seat) {
         claim_piece(table, seat, piece);
@@ -116,6 +119,50 @@ fn one_seat_plays_a_plan(rt: HostRuntime) -> Result<(), Fail> {
         assert!(rt; table.draw_judge(&mut seat) == Some(expected));
     }
     assert!(rt; table.draw_judge(&mut seat).is_none());
+    Ok(())
+}
+
+#[test]
+fn two_seats_take_turns(rt: HostRuntime) -> Result<(), Fail> {
+    let (table, mut seats) = ClaimTable::new::<ThreePieces>(rt.alloc(), 3, 3, 2)?;
+    let mut a = seats.pop().unwrap();
+    let mut b = seats.pop().unwrap();
+    let Some(0) = table.draw_claim(&mut a) else {
+        panic!(rt; "not the first piece")
+    };
+    let Some(1) = table.draw_claim(&mut b) else {
+        panic!(rt; "not the second piece")
+    };
+    let Some(2) = table.draw_claim(&mut a) else {
+        panic!(rt; "not the third piece")
+    };
+    claim_piece(&table, &mut b, 1);
+    assert!(rt; table.done(&mut b) == 1);
+    claim_piece(&table, &mut a, 2);
+    assert!(rt; table.done(&mut a) == 2);
+    claim_piece(&table, &mut a, 0);
+    assert!(rt; table.draw_claim(&mut b).is_none());
+    assert!(rt; table.done(&mut b) == 3);
+    assert!(rt; headers(&table, &mut b) == [12, 7, 0]);
+    Ok(())
+}
+
+/// A seat that split off another takes it in again, and splits off a third.
+#[test]
+fn a_seat_is_split_and_joined(rt: HostRuntime) -> Result<(), Fail> {
+    let (table, mut seats) = ClaimTable::new::<ThreePieces>(rt.alloc(), 3, 3, 2)?;
+    let mut a = seats.pop().unwrap();
+    let b = seats.pop().unwrap();
+    table.join(&mut a, b);
+    claim_all(&table, &mut a);
+    assert!(rt; table.done(&mut a) == 3);
+    let mut c = table.split(&mut a, 1);
+    assert!(rt; headers(&table, &mut c) == [12, 7, 0]);
+    assert!(rt; table.draw_judge(&mut c) == Some(0));
+    assert!(rt; table.draw_judge(&mut a) == Some(1));
+    table.join(&mut a, c);
+    assert!(rt; table.draw_judge(&mut a) == Some(2));
+    assert!(rt; table.draw_judge(&mut a).is_none());
     Ok(())
 }
 

@@ -38,3 +38,9 @@ pub record IsJudging (table : ClaimTable) (seat : ClaimSeat) : Type 0 where
   pub flag : (view_of seat).stable ≡ true
   pub judges : (view_of seat).judging.spent ≡ 0
   pub shares : (view_of seat).shares ≡ 1
+
+-- draws that gave a number leave the shares, and how many came too late
+pub record IsAsLate (old new : ClaimSeat) : Type 0 where
+  pub claims : (view_of new).claiming.spent ≡ (view_of old).claiming.spent
+  pub judging : (view_of new).judging ≡ (view_of old).judging
+  pub shares : (view_of new).shares ≡ (view_of old).shares
