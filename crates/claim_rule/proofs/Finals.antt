@@ -1,13 +1,12 @@
 -- What a table knows in which all pieces are finished, or one isn't.
-use Rattle.std.proofs.Common.{◌≡◌, ◌≢◌, ◌⊎◌, ℕ, ◌+◌, ◌<◌, ◌≤◌, min, max, Bool, true, false, cond, List, [], ◌∷◌, length, refl, sym, ap, ◌∙◌, subst, arith, eqb-true}
+use Rattle.std.proofs.Common.{◌≡◌, ℕ, ◌<◌, ◌≤◌, min, List, length, ap, ◌∙◌, subst, arith}
 use Rattle.std.specs.Prelude.{sum_by, All, Contains, slice_index}
-use Rattle.std.proofs.lemmas.List.Elements.{All-contains}
 use mathlib.Core.Option.{some}
 use lib.ListN.{get_elem?}
 use Rattle.claim_rule.specs.declared.view.ClaimView.{ClaimView}
 use Rattle.claim_rule.specs.Plan.{Plan, piece_of, top, word_on, best, final_of}
-use Rattle.claim_rule.specs.Views.{times, spent_view}
-use Rattle.claim_rule.specs.Rule.{once_below, IsFinished, IsPlanned, Fits, AreDrawn, IsRuled}
+use Rattle.claim_rule.specs.Views.{times}
+use Rattle.claim_rule.specs.Rule.{once_below, IsPlanned, Fits, IsRuled}
 use Rattle.claim_rule.proofs.Sums.{each_at, sum_at, sum_some}
 use Rattle.claim_rule.specs.laws.Times.{times_none}
 use Rattle.claim_rule.specs.laws.Tops.{top_at, top_least, best_at, piece_below, piece_at}

@@ -1,17 +1,17 @@
 -- Each kind of step keeps the rule.
-use Rattle.std.proofs.Common.{◌≡◌, ◌≢◌, ◌⊎◌, inl, inr, ℕ, zero, suc, ◌+◌, ◌-◌, ◌<◌, ◌≤◌, min, max, Bool, true, false, cond, true≢false, List, [], ◌∷◌, ◌++◌, length, set, refl, sym, ap, ◌∙◌, subst, ⊎_elim, arith, length-append, length-set, get_or-set_other, get_or-set_same, eq-eqb, ne_eqb, eqb-true}
-use Rattle.std.specs.Prelude.{sum_by, All, Contains, slice_index, Some, None, ◌==◌}
-use Rattle.std.proofs.lemmas.List.Elements.{All-set, All-weaker, All-push, All-append, Contains-append_left, Contains-append_right, Contains-push}
+use Rattle.std.proofs.Common.{◌≡◌, ◌≢◌, ℕ, zero, suc, ◌+◌, ◌<◌, ◌≤◌, max, Bool, true, false, cond, true≢false, List, [], ◌∷◌, ◌++◌, length, set, refl, sym, ap, ◌∙◌, subst, arith, length-append, length-set, get_or-set_other, get_or-set_same, eq-eqb, ne_eqb, eqb-true}
+use Rattle.std.specs.Prelude.{All, Contains, slice_index, Some, None, ◌==◌}
+use Rattle.std.proofs.lemmas.List.Elements.{All-set, All-weaker, All-push, Contains-append_left}
 use mathlib.Core.Option.{some}
 use mathlib.Core.Logic.{dite}
 use native.Mathlib.Decide.{ℕ_discrete}
 use lib.ListN.{get_elem?}
 use Rattle.claim_rule.specs.declared.view.Draws.{Draws}
 use Rattle.claim_rule.specs.declared.view.ClaimView.{ClaimView}
-use Rattle.claim_rule.specs.Plan.{Plan, piece_of, top, word_on, best, final_of}
-use Rattle.claim_rule.specs.Views.{times, without, no_draws, spent_view, claim_drawn, row_claimed, piece_finished, done_seen, judge_drawn}
-use Rattle.claim_rule.specs.Rule.{once_below, IsFinished, IsPlanned, Fits, AreDrawn, IsRuled}
-use Rattle.claim_rule.proofs.Sums.{each_at, sum_set, sum_set_same, sum_at}
+use Rattle.claim_rule.specs.Plan.{Plan, piece_of, word_on, best}
+use Rattle.claim_rule.specs.Views.{times, claim_drawn, row_claimed, piece_finished, done_seen, judge_drawn}
+use Rattle.claim_rule.specs.Rule.{IsPlanned, Fits, AreDrawn, IsRuled}
+use Rattle.claim_rule.proofs.Sums.{each_at, sum_set, sum_set_same}
 use Rattle.claim_rule.specs.laws.Times.{times-append, times-le-length, length-without, times-without_other, times-without-le}
 use Rattle.claim_rule.specs.laws.Tops.{top_at, top-append}
 use Rattle.claim_rule.proofs.Tops.{top_set, top_set_same}

@@ -1,6 +1,6 @@
 -- The row of a pair of the plan is one of the table's.
-use Rattle.std.proofs.Common.{◌≡◌, ℕ, zero, suc, ◌<◌, List, [], ◌∷◌}
-use Rattle.std.specs.Prelude.{All, Contains}
+use Rattle.std.proofs.Common.{ℕ, zero, suc, ◌<◌, [], ◌∷◌}
+use Rattle.std.specs.Prelude.{All}
 use Rattle.std.proofs.lemmas.List.Elements.{All-contains, All-nil, All-head, All-tail}
 use Rattle.claim_rule.specs.Plan.{Plan, piece_of}
 use Rattle.claim_rule.specs.declared.table.ClaimTable.{ClaimTable}

@@ -1,6 +1,6 @@
 -- A split and a join of seats keep the rule, and a table that is opened has it.
-use Rattle.std.proofs.Common.{◌≡◌, ◌≢◌, ◌⊎◌, inl, inr, ℕ, zero, suc, ◌+◌, ◌-◌, ◌<◌, ◌≤◌, ◌^◌, min, max, Bool, true, false, cond, ◌||◌, true≢false, List, [], ◌∷◌, ◌++◌, length, set, replicate, refl, sym, ap, ◌∙◌, subst, ⊎_elim, arith, length-append}
-use Rattle.std.specs.Prelude.{sum_by, All, Contains, slice_index, Some, None, ◌==◌}
+use Rattle.std.proofs.Common.{◌≡◌, ◌≢◌, ℕ, zero, suc, ◌+◌, ◌<◌, ◌≤◌, ◌^◌, min, Bool, true, false, ◌||◌, true≢false, List, [], ◌∷◌, ◌++◌, length, set, replicate, refl, sym, ap, ◌∙◌, subst, ⊎_elim, arith, length-append}
+use Rattle.std.specs.Prelude.{All, Contains}
 use Rattle.std.proofs.lemmas.List.Elements.{All-set, All-weaker, All-push, All-append, All-nil, All-cons, Contains-append_left, Contains-append_right}
 use Rattle.std.proofs.lemmas.Bool.Decides.{nat_tests}
 use mathlib.Core.Option.{some, some-ne-none}
@@ -8,8 +8,8 @@ use lib.ListN.{get_elem?, get_or-replicate, length-replicate}
 use Rattle.atomic_table.proofs.Lists.{at_set, set_here}
 use Rattle.claim_rule.specs.declared.view.Draws.{Draws}
 use Rattle.claim_rule.specs.declared.view.ClaimView.{ClaimView}
-use Rattle.claim_rule.specs.Plan.{Plan, piece_of, top, word_on, best, final_of}
-use Rattle.claim_rule.specs.Views.{times, no_draws, fresh, spent_view, shares_kept, shares_given, draws_joined, views_joined}
+use Rattle.claim_rule.specs.Plan.{Plan, piece_of, word_on, best}
+use Rattle.claim_rule.specs.Views.{times, no_draws, fresh, spent_view, shares_kept, shares_given, views_joined}
 use Rattle.claim_rule.specs.Rule.{once_below, IsFinished, IsPlanned, Fits, AreDrawn, IsRuled}
 use Rattle.claim_rule.proofs.Sums.{each_at, sum_joined, sum_split}
 use Rattle.claim_rule.specs.laws.Times.{times-append}

@@ -1,20 +1,19 @@
 -- What each call owes for its step, by the rule.
-use Rattle.std.proofs.Common.{◌≡◌, ◌≢◌, ◌⊎◌, inl, inr, ℕ, zero, suc, ◌+◌, ◌-◌, ◌%◌, ◌^◌, ◌<◌, ◌≤◌, max, Bool, true, false, true≢false, List, [], ◌∷◌, ◌++◌, length, set, replicate, refl, sym, ap, ◌∙◌, subst, ⊎_elim, arith, ltb-true, ltb-false}
-use Rattle.std.specs.Prelude.{All, Contains, slice_index, nat_lt, Some, None, if◌then◌else◌, Option}
+use Rattle.std.proofs.Common.{◌≡◌, inl, inr, ℕ, zero, suc, ◌+◌, ◌-◌, ◌%◌, ◌^◌, ◌<◌, ◌≤◌, max, Bool, true, false, true≢false, List, [], ◌∷◌, length, set, replicate, refl, sym, ap, ◌∙◌, subst, ⊎_elim, arith, ltb-true, ltb-false}
+use Rattle.std.specs.Prelude.{All, Contains, slice_index, nat_lt, Some, None, if◌then◌else◌}
 use Rattle.std.proofs.Math.Nat.{mod-eq_of_lt}
-use Rattle.std.proofs.lemmas.List.Elements.{All-weaker, All-contains}
+use Rattle.std.proofs.lemmas.List.Elements.{All-weaker}
 use mathlib.Core.Option.{none, some, some-ne-none}
 use lib.ListN.{get_elem?}
 use lib.Seq.{set-get_or}
-use Rattle.atomic_table.specs.Table.{State, step, keeps, Allows, Splits, Joins, opening}
+use Rattle.atomic_table.specs.Table.{step, keeps, Allows, Splits, Joins, opening}
 use Rattle.atomic_table.proofs.Lists.{set_again}
-use Rattle.claim_rule.specs.declared.view.Draws.{Draws}
 use Rattle.claim_rule.specs.declared.view.ClaimView.{ClaimView}
-use Rattle.claim_rule.specs.Plan.{Plan, piece_of, top, best, final_of, IsPlan}
-use Rattle.claim_rule.specs.Views.{times, fresh, closed_view, spent_view, claim_drawn, row_claimed, piece_finished, done_seen, judge_drawn, shares_kept, shares_given, views_joined}
-use Rattle.claim_rule.specs.Rule.{Fits, AreDrawn, IsRuled, IsClosed, IsOpen, Holds}
+use Rattle.claim_rule.specs.Plan.{Plan, piece_of, final_of}
+use Rattle.claim_rule.specs.Views.{fresh, closed_view, spent_view, claim_drawn, row_claimed, piece_finished, done_seen, judge_drawn, shares_kept, shares_given, views_joined}
+use Rattle.claim_rule.specs.Rule.{Fits, IsRuled, IsClosed, IsOpen, Holds}
 use Rattle.claim_rule.specs.Seats.{IsOwed, IsClaimed, IsOnce}
-use Rattle.claim_rule.specs.inner.Steps.{Seated, drawn_at, DrawsFrom, DrawsClaim, DrawsJudge, ClaimsRow, Finishes, SeesDone, ReadsHeader, Settles, Opens}
+use Rattle.claim_rule.specs.inner.Steps.{Seated, drawn_at, DrawsFrom, SeesDone}
 use Rattle.claim_rule.proofs.Drawing.{drawn_new, drawn_room, drawn_once, drawn_small}
 use Rattle.claim_rule.proofs.Finals.{fits_at, done_within, header_final}
 use Rattle.claim_rule.proofs.Moves.{draw_claim_some, draw_claim_none, draw_judge_some, draw_judge_none, see_done, claim_row, finish}

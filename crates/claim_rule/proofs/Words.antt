@@ -1,10 +1,10 @@
 -- A step on a word of each kind, as a fact on the rule alone: after these no proof mentions the table's state.
-use Rattle.std.proofs.Common.{◌≡◌, ◌≢◌, ◌⊎◌, inl, inr, ℕ, zero, suc, ◌+◌, ◌<◌, Bool, true, false, true≢false, List, [], ◌∷◌, ◌++◌, length, set, replicate, refl, sym, ap, ◌∙◌, subst, ⊎_elim, arith}
+use Rattle.std.proofs.Common.{◌≡◌, ◌≢◌, inr, ℕ, zero, suc, ◌+◌, false, true≢false, List, [], ◌∷◌, ◌++◌, set, refl, sym, ap, ◌∙◌, subst, ⊎_elim, arith}
 use Rattle.std.specs.Prelude.{slice_index, slice_set}
 use mathlib.Core.Option.{some, some-ne-none, some-injective}
 use mathlib.Core.Option as maybe
 use lib.ListN.{get_elem?}
-use Rattle.atomic_table.specs.Table.{State, Act, keeps, Valid, homes_after, carried_after, Allows, Splits, Joins}
+use Rattle.atomic_table.specs.Table.{Act, keeps, Valid, homes_after, carried_after, Allows, Splits, Joins}
 use Rattle.claim_rule.specs.declared.view.ClaimView.{ClaimView}
 use Rattle.claim_rule.specs.Plan.{Plan}
 use Rattle.claim_rule.specs.Views.{closed_view}

@@ -5,7 +5,7 @@ use Rattle.atomic_table.specs.Table.{State}
 use Rattle.claim_rule.specs.declared.view.Draws.{Draws}
 use Rattle.claim_rule.specs.declared.view.ClaimView.{ClaimView}
 use Rattle.claim_rule.specs.Plan.{Plan, piece_of, top, best}
-use Rattle.claim_rule.specs.Views.{times, no_draws, spent_view, closed_view}
+use Rattle.claim_rule.specs.Views.{times, spent_view, closed_view}
 
 -- 1 for a number below n, and else 0
 abbrev pub once_below : ℕ → ℕ → ℕ

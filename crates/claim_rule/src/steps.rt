@@ -3,6 +3,7 @@ ghost use Rattle.std.specs.Prelude.{◌≡◌, ◌<◌, ◌≤◌, true, length}
 ghost use Rattle.claim_rule.specs.Plan.{final_of};
 ghost use Rattle.claim_rule.specs.Views.{claim_drawn, row_claimed, piece_finished, done_seen, judge_drawn};
 ghost use Rattle.claim_rule.specs.Seats.{view_of, rows_of, IsSeatOf, DrawTells, IsOwed, IsClaimed};
+ghost use Rattle.claim_rule.specs.inner.Steps.{drawn_at};
 
 use crate::plan::Number;
 use crate::plays::{ClaimRow, DrawClaim, DrawJudge, Finish, ReadHeader, SeeDone};
@@ -24,6 +25,13 @@ impl ClaimTable {
             .table
             .shared
             .fetch_add::<DrawClaim>(&mut seat.seat, CLAIMED, 1);
+        self.given(found)
+    }
+
+    // What a draw gives that found the counter so.
+    fn given(&self, found: u64) -> Option<u32>
+        ensures { result ≡ drawn_at found self.now.pieces }
+    {
         if found < self.pieces as u64 {
             Some(found as u32)
         } else {
@@ -89,11 +97,7 @@ impl ClaimTable {
             .table
             .shared
             .fetch_add::<DrawJudge>(&mut seat.seat, JUDGED, 1);
-        if found < self.pieces as u64 {
-            Some(found as u32)
-        } else {
-            None
-        }
+        self.given(found)
     }
 
     /// The greatest word that the plan has for the row, or 0, once the seat has seen all pieces finished.

@@ -1,4 +1,4 @@
-use Rattle.std.proofs.Common.{◌≡◌, ◌-◌, ◌<◌, length}
+use Rattle.std.proofs.Common.{◌-◌, ◌<◌, length}
 use Rattle.claim_rule.specs.Seats.{view_of}
 use Rattle.claim_rule.specs.inner.Trial.{Plays, IsAsLate}
 use Rattle.claim_rule.proofs.tests.claim_all.Given as goal

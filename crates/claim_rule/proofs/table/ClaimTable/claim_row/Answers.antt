@@ -1,4 +1,4 @@
-use Rattle.std.proofs.Common.{◌<◌, ℕ, subst, sym, arith}
+use Rattle.std.proofs.Common.{◌<◌, arith}
 use Rattle.claim_rule.proofs.Stepping.{claims_row}
 use Rattle.claim_rule.proofs.Rows.{owed_within}
 use Rattle.claim_rule.proofs.table.ClaimTable.claim_row.Goals as goal

@@ -1,4 +1,4 @@
-use Rattle.std.proofs.Common.{◌≡◌, ◌+◌, ◌<◌, false, ap, ◌∙◌, sym, arith}
+use Rattle.std.proofs.Common.{◌≡◌, false, ap, ◌∙◌, arith}
 use Rattle.claim_rule.specs.declared.view.ClaimView.{ClaimView}
 use Rattle.claim_rule.specs.Views.{views_joined}
 use Rattle.claim_rule.proofs.Stepping.{joins, settles}

@@ -1,7 +1,3 @@
-use Rattle.std.proofs.Common.{◌≡◌, ◌+◌, ◌<◌, false, length}
-use Rattle.std.specs.Prelude.{All}
-use Rattle.claim_rule.specs.Views.{fresh}
-use Rattle.claim_rule.specs.Seats.{view_of, IsSeatOf, IsFreshSeatOf}
 use Rattle.claim_rule.specs.inner.Made.{IsSharing}
 use Rattle.claim_rule.proofs.table.ClaimTable.share_out.Given as goal
 
