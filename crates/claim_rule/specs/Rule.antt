@@ -1,9 +1,11 @@
 -- What holds of a table between any two steps, whatever the order of the steps of its seats.
--- The words are the claim counter, the done word, the judge counter, and one header per row.
+-- The words are the claim counter, the done word, the judge counter, and one header per row. The views are those of
+-- all seats that there ever were: a seat that was joined to another leaves the spent view, and one that was dropped its own.
 use Rattle.std.specs.Prelude.{◌≡◌, ℕ, ◌+◌, ◌^◌, ◌<◌, ◌≤◌, ◌⊎◌, min, true, false, cond, nat_lt, List, [], ◌∷◌, length, replicate, slice_index, All, Contains, sum_by}
 use Rattle.atomic_table.specs.Table.{State}
 use Rattle.claim_rule.specs.declared.view.Draws.{Draws}
 use Rattle.claim_rule.specs.declared.view.ClaimView.{ClaimView}
+use Rattle.claim_rule.specs.declared.limits.TheConstants.{MAX_WORKERS}
 use Rattle.claim_rule.specs.Plan.{Plan, piece_of, top, best}
 use Rattle.claim_rule.specs.Views.{times, spent_view, closed_view}
 
@@ -22,19 +24,19 @@ IsPlanned plan v pair = (x : ℕ) × (0 < times x v.claiming.numbers) × Contain
 
 -- what the rule says of one view, where the done word counts so many pieces
 pub record Fits (plan : Plan) (done : ℕ) (v : ClaimView) : Type 0 where
-  -- a view has the plan, and one without shares is spent
+  -- each view has the plan but a spent one, which has nothing
   pub opened : v.closed ≡ false
   pub same : 0 < v.shares → v.plan ≡ plan
   pub empty : v.shares ≡ 0 → v ≡ spent_view
-  -- what isn't finished was drawn
+  -- a number that isn't finished is one that the view has drawn
   pub drawn : (x : ℕ) → times x v.pending ≤ times x v.claiming.numbers
-  -- all claims of a finished number were made, and each claim is a pair of the plan
+  -- all claims of a finished number were made, and each claim is a pair that the plan has for a drawn number
   pub made : (x : ℕ) → IsFinished v x → All (Contains v.claims) (piece_of plan x)
   pub planned : All (IsPlanned plan v) v.claims
   -- the flag stands only where all is done, and a number for judging only beside the flag
   pub stable : v.stable ≡ true → done ≡ length plan
   pub judging : v.stable ≡ false → v.judging.numbers ≡ []
-  -- at most so many draws came too late as the view has shares
+  -- at most as many draws of each counter came too late as the view has shares
   pub late_claiming : v.claiming.spent ≤ v.shares
   pub late_judging : v.judging.spent ≤ v.shares
 
@@ -48,13 +50,15 @@ pub record AreDrawn (counter n : ℕ) (draws : ClaimView → Draws) (views : Lis
 -- the rule of a table with a plan
 pub record IsRuled (rows : ℕ) (plan : Plan) (claimed done judged : ℕ) (headers : List ℕ) (views : List ClaimView) : Type 0 where
   pub fits : All (Fits plan done) views
+  -- the claim counter and the judge counter
   pub claiming : AreDrawn claimed (length plan) (λ v. v.claiming) views
   pub judging : AreDrawn judged (length plan) (λ v. v.judging) views
   -- the done word counts the numbers that are finished
   pub finished : done + sum_by (λ v. length v.pending) views ≡ sum_by (λ v. length v.claiming.numbers) views
   -- each header is the greatest claim on its row over all views, or 0
   pub greatest : (row : ℕ) → row < rows → slice_index headers row ≡ top (λ v. best row v.claims) views
-  pub shares : sum_by (λ v. v.shares) views ≤ 8
+  -- no counter wraps: the shares are few, and so are the pieces
+  pub shares : sum_by (λ v. v.shares) views ≤ MAX_WORKERS
   pub few : length plan < 2 ^ 32
   pub long : length headers ≡ rows
 
@@ -73,5 +77,6 @@ pub record IsOpen (rows : ℕ) (s : State (Unit {0}) ClaimView) : Type 0 where
   pub words : s.words ≡ claimed ∷ done ∷ judged ∷ headers
   pub ruled : IsRuled rows plan claimed done judged headers s.views
 
+-- the rule: by it each step of a seat is proved
 abbrev pub Holds : ℕ → State (Unit {0}) ClaimView → Type 0
 Holds rows s = IsClosed rows s ⊎ IsOpen rows s

@@ -43,6 +43,11 @@ pub record IsOnce (v : ClaimView) : Type 0 where
   pub claiming : (x : ℕ) → times x v.claiming.numbers ≤ 1
   pub judging : (x : ℕ) → times x v.judging.numbers ≤ 1
 
+-- no number was given to both
+pub record AreApart (v w : ClaimView) : Type 0 where
+  pub claiming : (x : ℕ) → 0 < times x v.claiming.numbers → times x w.claiming.numbers ≡ 0
+  pub judging : (x : ℕ) → 0 < times x v.judging.numbers → times x w.judging.numbers ≡ 0
+
 -- a seat that knows the plan, has one share, and has done nothing
 pub record IsFreshSeatOf (table : ClaimTable) (plan : Plan) (seat : ClaimSeat) : Type 0 where
   pub seated : IsSeatOf table seat

@@ -2,9 +2,10 @@
 ghost use Rattle.std.specs.Prelude.{◌≡◌, ◌+◌, ◌<◌, ◌≤◌, false, [], All, IfOk, OnOk, length};
 ghost use Rattle.claim_rule.specs.Plan.{IsPlan};
 ghost use Rattle.claim_rule.specs.Views.{closed_view, fresh, shares_kept, shares_given, views_joined};
-ghost use Rattle.claim_rule.specs.Seats.{view_of, rows_of, IsSeatOf, IsFreshSeatOf, CanGive, IsOnce};
+ghost use Rattle.claim_rule.specs.Seats.{view_of, rows_of, IsSeatOf, IsFreshSeatOf, CanGive, IsOnce, AreApart};
 ghost use Rattle.claim_rule.specs.inner.Made.{IsMade, IsClosedSeatOf};
 
+use crate::limits::MAX_WORKERS;
 use crate::plan::{ClaimPlan, Number, Opening};
 use crate::plays::{Gather, Open, Part, Settle};
 use crate::seat::ClaimSeat;
@@ -23,7 +24,7 @@ impl ClaimTable {
         workers: u8,
     ) -> Result<(ClaimTable, Vec<ClaimSeat>), NoMemory>
         requires plan { IsPlan P.plan rows pieces }
-        requires workers { (0 < workers) × (workers ≤ 8) }
+        requires workers { (0 < workers) × (workers ≤ MAX_WORKERS) }
         ensures rows { IfOk result (λ made. rows_of made.0 ≡ rows) }
         ensures count { IfOk result (λ made. length made.1.items ≡ workers) }
         ensures seats { IfOk result (λ made. All (IsFreshSeatOf made.0 P.plan) made.1.items) }
@@ -53,7 +54,7 @@ impl ClaimTable {
     fn open<P: ClaimPlan>(&self, seat: &mut ClaimSeat, workers: u8)
         requires seat { IsClosedSeatOf self.now seat.old }
         requires plan { IsPlan P.plan self.now.rows self.now.pieces }
-        requires workers { (0 < workers) × (workers ≤ 8) }
+        requires workers { (0 < workers) × (workers ≤ MAX_WORKERS) }
         ensures seat { IsSeatOf self.now seat.new }
         ensures view { view_of seat.new ≡ fresh P.plan workers false }
     {
@@ -64,7 +65,7 @@ impl ClaimTable {
         requires seat { IsClosedSeatOf self.now seat.old }
         requires plan { IsPlan Q.plan self.now.rows self.now.pieces }
         requires named { _workers ≡ Q.shares }
-        requires workers { (0 < Q.shares) × (Q.shares ≤ 8) }
+        requires workers { (0 < Q.shares) × (Q.shares ≤ MAX_WORKERS) }
         ensures seat { IsSeatOf self.now seat.new }
         ensures view { view_of seat.new ≡ fresh Q.plan Q.shares false }
     {
@@ -124,13 +125,14 @@ impl ClaimTable {
     }
 
     /// Takes in what another seat has drawn, claimed and seen, and its shares. No number stands twice in the
-    /// lists that this gives.
+    /// lists that this gives, so none was given to both seats.
     pub fn join(&self, seat: &mut ClaimSeat, other: ClaimSeat)
         requires seat { IsSeatOf self.now seat.old }
         requires other { IsSeatOf self.now other }
         ensures seat { IsSeatOf self.now seat.new }
         ensures view { view_of seat.new ≡ views_joined (view_of seat.old) (view_of other) }
         ensures once { IsOnce (view_of seat.new) }
+        ensures apart { AreApart (view_of seat.old) (view_of other) }
     {
         let ClaimSeat { seat: theirs } = other;
         self.table
