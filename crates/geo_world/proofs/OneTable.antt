@@ -1,17 +1,27 @@
 -- The table of every play is a schema, and its rows fit it.
 use Rattle.std.proofs.Common.{◌≡◌, ℤ, List, [], ◌∷◌, None, refl, sym, ap, ◌∙◌, subst}
+use Rattle.std.proofs.lemmas.Option.{none-some}
 use Rattle.geo_base.specs.declared.cell.Cell.{Cell}
 use Rattle.geo_base.specs.declared.cell.Cell.TheVariants as cell
 use Rattle.geo_base.specs.declared.row_id.RowId.{RowId}
-use Rattle.geo_schema.specs.Rows.{cell_fault, row_fault, key_cells}
-use Rattle.geo_schema.specs.Schemas.{schema_fault}
-use Rattle.geo_schema.specs.Tables.{is_column, are_columns, are_places, are_indexes, is_table}
+use Rattle.geo_schema.specs.Rows.{IsRow, key_cells}
+use Rattle.geo_schema.specs.Schemas.{IsSchemaFault}
+use Rattle.geo_schema.specs.declared.fault.SchemaFault.{SchemaFault}
+use Rattle.geo_schema.specs.inner.Rows.{cell_fault, row_fault}
+use Rattle.geo_schema.specs.inner.Schemas.{schema_fault}
+use Rattle.geo_schema.specs.inner.Tables.{is_column, are_columns, are_places, are_indexes, is_table}
+use Rattle.geo_schema.specs.laws.Fits.{row_fits}
+use Rattle.geo_schema.specs.laws.Schemas.{schema_fault_is}
 use Rattle.geo_world.specs.Step.{kv_row}
 use Rattle.geo_world.specs.Tables.{kv_table, kv_tables, kv_cells}
 
-pub kv_is_schema : schema_fault kv_tables ≡ None
+kv_faultless : schema_fault kv_tables ≡ None
 unfolding schema_fault is_table are_columns is_column are_places are_indexes
-kv_is_schema = refl
+kv_faultless = refl
+
+-- the tables have no fault, so they are a schema
+pub kv_no_fault : (why : SchemaFault) → IsSchemaFault kv_tables why → ⊥
+kv_no_fault why fault = none-some why (sym kv_faultless ∙ schema_fault_is kv_tables why fault)
 
 kv_fits : (key value : ℤ) → row_fault kv_table (kv_cells key value) ≡ None
 unfolding row_fault cell_fault
@@ -22,8 +32,8 @@ unfolding key_cells
 kv_key key value = refl
 
 -- the cells of a row of the table fit it
-pub kv_fitting : (key value : ℤ) (cells : List Cell) → cells ≡ kv_cells key value → row_fault kv_table cells ≡ None
-kv_fitting key value cells is = subst (λ (x : List Cell). row_fault kv_table x ≡ None) (sym is) (kv_fits key value)
+pub kv_fitting : (key value : ℤ) (cells : List Cell) → cells ≡ kv_cells key value → IsRow kv_table cells
+kv_fitting key value cells is = subst (IsRow kv_table) (sym is) (row_fits kv_table (kv_cells key value) (kv_fits key value))
 
 -- the name by the table's key is that of the row with this key
 pub kv_named : (key value : ℤ) (cells : List Cell) (row : RowId) → cells ≡ kv_cells key value → row ≡ record { table = 0; key = key_cells kv_table cells } → row ≡ kv_row key

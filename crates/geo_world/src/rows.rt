@@ -1,6 +1,6 @@
 //! The rows of the table of numbers, and the candidates that put them.
-ghost use Rattle.std.specs.Prelude.{◌≡◌, ◌∷◌, [], None, IfOk};
-ghost use Rattle.geo_schema.specs.Rows.{row_fault, key_cells};
+ghost use Rattle.std.specs.Prelude.{◌≡◌, ◌∷◌, [], IfOk};
+ghost use Rattle.geo_schema.specs.Rows.{IsRow, key_cells};
 ghost use Rattle.geo_world.specs.Tables.{kv_table, kv_tables, kv_cells};
 ghost use Rattle.write_set.specs.declared.change.Change.TheVariants as change;
 
@@ -25,7 +25,7 @@ pub fn image_of(alloc: Global, key: i64, value: i64) -> Result<RowImage, NoMemor
 /// The name of a row of the table.
 pub fn row_of(alloc: Global, schema: &Schema, image: &RowImage) -> Result<RowId, NoMemory>
     requires table { schema.now ≡ kv_tables }
-    requires fits { row_fault kv_table image.now ≡ None }
+    requires fits { IsRow kv_table image.now }
     ensures { IfOk result (λ row. row ≡ record { table = 0; key = key_cells kv_table image.now }) }
 {
     Ok(RowId {

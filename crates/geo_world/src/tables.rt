@@ -10,7 +10,7 @@ use geo_schema::{
 use std::alloc::Global;
 
 /// The schema of the table `kv (k INT KEY, v INT)`.
-#[tactic(auto, using(crate::proofs::OneTable::kv_is_schema))]
+#[tactic(auto, using(crate::proofs::OneTable::kv_no_fault))]
 pub fn kv_schema(alloc: Global) -> Result<Schema, NoMemory>
     ensures { IfOk result (λ schema. schema ≡ kv_tables) }
 {
