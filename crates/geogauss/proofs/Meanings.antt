@@ -1,24 +1,21 @@
 -- How a play's meaning is put together from what reading, playing and the last flush say.
-use Rattle.std.proofs.Common.{◌≡◌, ℕ, ◌+◌, ◌-◌, ◌≤◌, List, [], length, take, refl, sym, ap, ◌∙◌, subst, append-nil, arith, Option, None, Some, Result, Ok, Err, IfOk, ◌⊎◌, inl, inr}
-use Rattle.std.specs.Io.KnownBytes.{Appends, Keeps, append_known}
+use Rattle.std.proofs.Common.{◌≡◌, ℕ, ◌+◌, ◌≤◌, List, [], refl, ap, ◌∙◌, append-nil, arith, Option, None, Some, Result, Ok, Err, IfOk, ◌⊎◌, inl, inr}
+use Rattle.std.specs.Io.KnownBytes.{Keeps, append_known}
 use Rattle.std.proofs.KnownBytes.{Appends-kept, Consumes-nil, Keeps-refl, Keeps-trans}
 use Rattle.geo_base.specs.declared.limits.TheConstants.{SCRIPT_BYTES}
 use Rattle.geo_io.specs.Causes.{Rose}
-use Rattle.geo_io.specs.Told.{IsFrontOf, LosesAtMost}
+use Rattle.geo_io.specs.Told.{LosesAtMost}
 use Rattle.geo_world.specs.declared.script.Script.{Script}
 use Rattle.geo_world.specs.Script.{IsScript}
-use Rattle.geo_world.specs.World.{World}
-use Rattle.geo_world.specs.declared.event.Event.{Event}
-use Rattle.geo_world.specs.Play.{text_of}
 use Rattle.geogauss.specs.declared.status.Status.{Status}
 use Rattle.geogauss.specs.declared.status.Status.TheVariants.{Done, Usage, ScriptFault, ReadFault, WriteFault, NoMemory}
 use Rattle.geogauss.specs.Status.{IsScriptFault}
-use Rattle.geogauss.specs.Playing.{StoppedAfter, world_of, play_text}
-use Rattle.geogauss.specs.Meaning.{Outside, Gives, GivesNone, Says, IsPlayOf, IsReadToEnd}
+use Rattle.geogauss.specs.Playing.{StoppedAfter, world_of}
+use Rattle.geogauss.specs.Meaning.{Outside, Gives, GivesNone, Says, IsPlayOf}
 use Rattle.geogauss.specs.inner.Reading.{IsReadWhole, IsNotRead}
 use Rattle.geogauss.specs.inner.Playing.{IsPlayed}
 use Rattle.geogauss.specs.inner.Flushing.{unflushed_status}
-use Rattle.geogauss.proofs.ReadLemmas.{read-told, play-isolated}
+use Rattle.geogauss.proofs.ReadLemmas.{PlaysAreIsolated, read-told, play-isolated}
 use Rattle.geogauss.proofs.PlayLemmas.{StoppedAfter-all, StoppedAfter-kept, StoppedAfter-none}
 
 -- ---- what follows from what the status says
@@ -58,24 +55,24 @@ module _ (last : ℕ) (before after : Outside) where
 
   -- ---- a script was read, and then played
 
-  pub played : (status : Status) (found : Script) → IsReadWhole found before.left after.left
+  pub played : PlaysAreIsolated → (status : Status) (found : Script) → IsReadWhole found before.left after.left
       → ((input : List ℕ) (script : Script) → before.left ≡ Some input → IsScript script input → found ≡ script)
       → IsPlayed last found before.written after.written before.write_faults after.write_faults status
       → Says last before after status
-  played Done found whole only told = record {
+  played law Done found whole only told = record {
     read = λ input given. record { end = whole.end input given; script = found; spelled = read-told found _ _ input whole given };
     text = λ script gives. rw (← only gives.input script gives.told gives.spelled) told;
-    isolated = λ script gives. play-isolated last script gives.input gives.spelled;
+    isolated = λ script gives. play-isolated law last script gives.input gives.spelled;
   }
-  played Usage found whole only told = absurd told
-  played (ScriptFault line kind) found whole only told = absurd told
-  played ReadFault found whole only told = absurd told
-  played WriteFault found whole only told = record {
+  played law Usage found whole only told = absurd told
+  played law (ScriptFault line kind) found whole only told = absurd told
+  played law ReadFault found whole only told = absurd told
+  played law WriteFault found whole only told = record {
     cause = told.0;
     read = λ input given. record { end = whole.end input given; script = found; spelled = read-told found _ _ input whole given };
     stopped = λ script gives. rw (← only gives.input script gives.told gives.spelled) told.1;
   }
-  played NoMemory found whole only told = record {
+  played law NoMemory found whole only told = record {
     stopped = λ script gives. rw (← only gives.input script gives.told gives.spelled) told;
     nothing = λ none. absurd (none.none found (read-told found _ _ none.input whole none.told));
   }

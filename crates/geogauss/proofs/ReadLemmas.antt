@@ -1,5 +1,5 @@
 -- What was read of a source, and the script that it spells.
-use Rattle.std.proofs.Common.{◌≡◌, ℕ, ◌+◌, ◌<◌, ◌≤◌, List, [], ◌∷◌, ◌++◌, length, get_or, take, zero, suc, refl, ap, sym, ◌∙◌, subst, append-nil, take_all, arith, Option, Some, None, ◌⊎◌, inl, inr}
+use Rattle.std.proofs.Common.{◌≡◌, ℕ, ◌+◌, ◌<◌, ◌≤◌, List, [], ◌∷◌, ◌++◌, length, get_or, take, zero, suc, refl, ap, sym, ◌∙◌, subst, append-nil, take_all, arith, Option, Some, None, inl, inr}
 use Rattle.std.specs.Prelude.{All}
 use Rattle.std.proofs.Math.Nat.{eq-or-lt_of_le}
 use Rattle.std.proofs.Math.Seq.{take-append_seam}
@@ -8,16 +8,14 @@ use Rattle.geo_base.specs.declared.limits.TheConstants.{SCRIPT_BYTES}
 use Rattle.geo_world.specs.declared.event.Event.{Event}
 use Rattle.geo_world.specs.declared.script.Script.{Script}
 use Rattle.geo_world.specs.declared.script.ScriptFault.{ScriptFault}
-use Rattle.geo_world.specs.declared.script.ScriptKind.{ScriptKind}
 use Rattle.geo_world.specs.declared.script.ReadFault.{ReadFault}
 use Rattle.geo_world.specs.declared.script.ReadFault.TheVariants as read
 use Rattle.geo_world.specs.Script.{IsScript, IsWithin, AreLinesOf}
 use Rattle.geo_world.specs.Fault.{IsFault}
 use Rattle.write_set.specs.Isolation.{IsSnapshotIsolated}
-use Rattle.write_set.proofs.Isolating.{is_isolated}
 use Rattle.geo_world.specs.Play.{world_after}
 use Rattle.geo_world.specs.Plays.{LeadTo}
-use Rattle.geo_world.proofs.Played.{played-sound}
+use Rattle.geo_world.specs.World.{World}
 use Rattle.geogauss.specs.Playing.{bytes_read, world_of, play_journal}
 use Rattle.geogauss.specs.inner.Reading.{IsPlayable, IsReadWhole, IsNoText}
 
@@ -67,10 +65,14 @@ script-playable script bytes spelled = record {
   within = events-within script.regions script.events spelled.lines spelled.typed;
 }
 
+-- what `plays_are_isolated` promises
+abbrev pub PlaysAreIsolated : Type 0
+PlaysAreIsolated = (regions last : ℕ) (events : List Event) (w : World) → LeadTo regions last events w → IsSnapshotIsolated w.journal
+
 -- a script's play is a snapshot-isolated history
-pub play-isolated : (last : ℕ) (script : Script) (bytes : List ℕ) → IsScript script bytes → IsSnapshotIsolated (play_journal last script)
-play-isolated last script bytes spelled =
-    is_isolated (play_journal last script) (played-sound script.regions last script.events (world_after (world_of last script) script.events) leads).lawful
+pub play-isolated : PlaysAreIsolated → (last : ℕ) (script : Script) (bytes : List ℕ) → IsScript script bytes → IsSnapshotIsolated (play_journal last script)
+play-isolated law last script bytes spelled =
+    law script.regions last script.events (world_after (world_of last script) script.events) leads
   where
     leads : LeadTo script.regions last script.events (world_after (world_of last script) script.events)
     leads = record { some = spelled.some; few = spelled.few; within = (script-playable script bytes spelled).within; after = refl }

@@ -9,6 +9,7 @@ use crate::events::play_script;
 use crate::reading::take_script;
 use crate::status::Status;
 use geo_io::{Keepers, Sink, Source};
+use geo_world::plays_are_isolated;
 use std::alloc::Global;
 
 /// Plays the script that the source gives, and writes the lines of its events. It calls no keepers yet.
@@ -30,7 +31,10 @@ pub fn play_call<S: Source, K: Sink, L: Keepers>(
 {
     let _ = logs;
     match take_script(alloc, src) {
-        Ok(script) => play_script(alloc, &script, opts.last_epoch, out),
+        Ok(script) => {
+            plays_are_isolated();
+            play_script(alloc, &script, opts.last_epoch, out)
+        }
         Err(status) => status,
     }
 }

@@ -10,7 +10,7 @@ play_script-requires g c = script-playable c.in-Ok.script _ c.in-Ok.ensures.scri
 
 pub returns-in-Ok-clause-means : goal.returns-in-Ok-clause-means
 returns-in-Ok-clause-means g c =
-    meant _ _ _ _ (played _ _ _ _ c.in-Ok.script c.in-Ok.ensures.script c.in-Ok.ensures.only c.play_script.ensures.played)
+    meant _ _ _ _ (played _ _ _ c.plays_are_isolated.ensures.isolated _ c.in-Ok.script c.in-Ok.ensures.script c.in-Ok.ensures.only c.play_script.ensures.played)
     c.in-Ok.ensures.taken c.in-Ok.ensures.later c.play_script.ensures.later refl
 
 pub returns-in-Err-clause-means : goal.returns-in-Err-clause-means
