@@ -9,9 +9,9 @@ use Rattle.sql_parse.specs.declared.expression.reader.Mode.TheVariants.{Named, Q
 use Rattle.sql_parse.specs.declared.expression.reader.Move.{Move}
 use Rattle.sql_parse.specs.declared.expression.reader.Reader.{Reader}
 use Rattle.sql_parse.specs.declared.stop.Stop.TheVariants.{Stuck, Deep}
-use Rattle.sql_parse.specs.Expressions.{Goes, Ends, Refuses, Deepens, moved, run, step, step_in, finished, behind_step, complete_step, named_step, reader_in}
+use Rattle.sql_parse.specs.inner.Expressions.{Goes, Ends, Refuses, Deepens, moved, run, step, step_in, finished, behind_step, complete_step, named_step, reader_in}
 use Rattle.sql_parse.specs.Grammar.{begins_integer}
-use Rattle.sql_parse.specs.Kinds.{is_symbol, operator_of}
+use Rattle.sql_parse.specs.inner.Kinds.{is_symbol, operator_of}
 
 -- What the next token does, by what was answered beside the reader. Of what is behind it, it is known whether that begins with an integer.
 pub step_here : (reader next : Reader) (token : TokenKind) (more : List TokenKind) (before : Bool) (answer move : Move) →

@@ -3,8 +3,8 @@ use Rattle.std.proofs.Common.{◌≡◌, ℕ, zero, suc, ◌+◌, ◌-◌, ◌<�
 use Rattle.sql_lex.specs.declared.symbol.Symbol.TheVariants.{Comma}
 use Rattle.sql_lex.specs.declared.token.TokenKind.{TokenKind}
 use Rattle.sql_parse.specs.declared.stop.Stop.{Stop}
-use Rattle.sql_parse.specs.Kinds.{is_symbol}
-use Rattle.sql_parse.specs.Reading.{Outcome, Parser, and_then, pure, begins, symbol, others, separated}
+use Rattle.sql_parse.specs.inner.Kinds.{is_symbol}
+use Rattle.sql_parse.specs.inner.Reading.{Outcome, Parser, and_then, pure, begins, symbol, others, separated}
 
 -- the parts, and then what is read of the others, at most so many
 abbrev pub read_on : {A : Type 0} → Parser A → List A → ℕ → Parser (List A)

@@ -8,7 +8,7 @@ use Rattle.sql_parse.specs.declared.stop.Stop.TheVariants.{Deep}
 use Rattle.sql_parse.specs.declared.expression.frame.Frame.{Frame}
 use Rattle.sql_parse.specs.declared.expression.reader.Mode.{Mode}
 use Rattle.sql_parse.specs.Trees.{Role, Operator, Opening, Inside, Outside, Mark, kinds}
-use Rattle.sql_parse.specs.Expressions.{Goes, Deepens, with_operator, with_opening, by_step, run}
+use Rattle.sql_parse.specs.inner.Expressions.{Goes, Deepens, with_operator, with_opening, by_step, run}
 use Rattle.sql_parse.proofs.ExpressionSteps.{reading}
 
 abbrev pub Answer : Type 0

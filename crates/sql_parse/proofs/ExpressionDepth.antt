@@ -10,11 +10,12 @@ use Rattle.sql_parse.specs.declared.limits.TheConstants.{MAX_OPERATORS, MAX_OPEN
 use Rattle.sql_parse.specs.declared.stop.Stop.TheVariants.{Deep}
 use Rattle.sql_parse.specs.declared.expression.reader.Mode.TheVariants as mode
 use Rattle.sql_parse.specs.declared.expression.reader.Reader.{Reader}
-use Rattle.sql_parse.specs.Kinds.{operator_kind, is_symbol}
+use Rattle.sql_parse.specs.Kinds.{operator_kind}
+use Rattle.sql_parse.specs.inner.Kinds.{is_symbol}
 use Rattle.sql_parse.specs.Trees.{Role, Operator, Opening, Inside, Outside, Mark, mark, kinds, inside, marks, value, Tree, Int, Negative, Text, Truth, Null, Column, Paren, Minus, Infix, Not, IsNull, null_kinds}
 use Rattle.sql_parse.specs.Grammar.{since_operators, since_openings, Exceeds, GoesOn}
-use Rattle.sql_parse.specs.Expressions.{run, start, step, finished, complete_step, by_step, settled, close_step, end_step, behind_step}
-use Rattle.sql_parse.specs.Reading.{expression}
+use Rattle.sql_parse.specs.inner.Expressions.{run, start, step, finished, complete_step, by_step, settled, close_step, end_step, behind_step}
+use Rattle.sql_parse.specs.inner.Reading.{expression}
 use Rattle.sql_parse.proofs.ExpressionPhrases.{level}
 use Rattle.sql_parse.proofs.ExpressionLaws.{Ends, EndsOperand, NoneExceeds, WrittenIsRead, DeepIsRefused, NeverWithoutMemory, FitsOrExceeds, FittingNeverExceeds}
 use Rattle.sql_parse.proofs.ExpressionTokens.{bound_behind, bound_by, Behind}

@@ -6,10 +6,10 @@ use Rattle.sql_lex.specs.declared.symbol.Symbol.TheVariants as symbol
 use Rattle.sql_lex.specs.declared.token.TokenKind.{TokenKind}
 use Rattle.sql_parse.specs.declared.limits.TheConstants.{MAX_OPERATORS, MAX_OPENINGS}
 use Rattle.sql_parse.specs.declared.stop.Stop.TheVariants.{Stuck, Deep, NoMemory}
-use Rattle.sql_parse.specs.Kinds.{operator_of, is_keyword, is_symbol}
+use Rattle.sql_parse.specs.inner.Kinds.{operator_of, is_keyword, is_symbol}
 use Rattle.sql_parse.specs.Trees.{Mark, Tree, marks, value, kinds}
 use Rattle.sql_parse.specs.Grammar.{since_operators, since_openings, Exceeds, GoesOn}
-use Rattle.sql_parse.specs.Reading.{expression}
+use Rattle.sql_parse.specs.inner.Reading.{expression}
 use Rattle.sql_parse.proofs.ExpressionPhrases.{IsPhrase}
 
 -- ---- terms

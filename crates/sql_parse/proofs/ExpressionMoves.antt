@@ -12,11 +12,12 @@ use Rattle.sql_parse.specs.declared.expression.frame.Frame.{Frame}
 use Rattle.sql_parse.specs.declared.expression.reader.Mode.{Mode}
 use Rattle.sql_parse.specs.declared.expression.reader.Mode.TheVariants as mode
 use Rattle.sql_parse.specs.declared.expression.reader.Reader.{Reader}
-use Rattle.sql_parse.specs.Kinds.{operator_of, operator_kind, integer_of, is_keyword, is_symbol}
-use Rattle.sql_parse.specs.Levels.{level_of, left_of, not_level, test_level, sum_level}
+use Rattle.sql_parse.specs.Kinds.{operator_kind, integer_of}
+use Rattle.sql_parse.specs.inner.Kinds.{operator_of, is_keyword, is_symbol}
+use Rattle.sql_parse.specs.inner.Levels.{level_of, left_of, not_level, test_level, sum_level}
 use Rattle.sql_parse.specs.Trees.{Role, Operator, Opening, Inside, Mark, mark, inside, kinds, marks, value, Tree, Int, Negative, Text, Truth, Null, Column, Paren, IsNull}
 use Rattle.sql_parse.specs.Grammar.{begins_integer, GoesOn}
-use Rattle.sql_parse.specs.Expressions.{Step, Goes, Ends, Refuses, Deepens, wanted, settled, with_operator, with_opening, signed, operand_step, infix_step, is_step, close_step, end_step, behind_step, complete_step, qualified_step, negative, step}
+use Rattle.sql_parse.specs.inner.Expressions.{Step, Goes, Ends, Refuses, Deepens, wanted, settled, with_operator, with_opening, signed, operand_step, infix_step, is_step, close_step, end_step, behind_step, complete_step, qualified_step, negative, step}
 use Rattle.sql_parse.proofs.ExpressionPhrases.{level, IsPhrase}
 use Rattle.sql_parse.proofs.ExpressionLaws.{EndsOperand}
 use Rattle.sql_parse.proofs.ExpressionTokens.{operator_token, keyword_token, symbol_token, goes_on, level_within}

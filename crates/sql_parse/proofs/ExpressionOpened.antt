@@ -7,9 +7,9 @@ use Rattle.sql_lex.specs.declared.token.TokenKind.TheVariants as kind
 use Rattle.sql_parse.specs.declared.expression.frame.Frame.{Frame}
 use Rattle.sql_parse.specs.declared.expression.frame.Frame.TheVariants as frame
 use Rattle.sql_parse.specs.Kinds.{operator_kind}
-use Rattle.sql_parse.specs.Levels.{level_of, left_of, not_level}
+use Rattle.sql_parse.specs.inner.Levels.{level_of, left_of, not_level}
 use Rattle.sql_parse.specs.Trees.{Operator, Opening, Mark, mark, inside, marks, value, Tree, Paren, Minus, Infix, Not, TakesSign}
-use Rattle.sql_parse.specs.Expressions.{wanted, is_closed, applied, frame_level, settled}
+use Rattle.sql_parse.specs.inner.Expressions.{wanted, is_closed, applied, frame_level, settled}
 use Rattle.sql_parse.proofs.ExpressionPhrases.{level, IsPhrase}
 use Rattle.sql_parse.proofs.ExpressionTokens.{level_within}
 use Rattle.sql_parse.proofs.ExpressionSteps.{held, settles, stays, StaysOpen}

@@ -2,7 +2,7 @@
 -- grammar's lines.
 use Rattle.std.proofs.Common.{◌≤◌, ℕ, arith}
 use Rattle.sql_ast.specs.declared.ast.AstOp.TheVariants as op
-use Rattle.sql_parse.specs.Levels.{level_of, left_of, right_of, not_level, test_level, sum_level, sign_level, whole_level}
+use Rattle.sql_parse.specs.inner.Levels.{level_of, left_of, right_of, not_level, test_level, sum_level, sign_level, whole_level}
 use Rattle.sql_parse.specs.Trees.{Tree, Int, Negative, Text, Truth, Null, Column, Paren, Minus, Infix, Not, IsNull, TakesSign}
 use Rattle.sql_parse.specs.Lines.{Line, Expr, Both, Deny, Sum, Term, Sign, number_of, Stands}
 

@@ -12,7 +12,7 @@ use Rattle.sql_parse.specs.declared.expression.reader.Mode.{Mode}
 use Rattle.sql_parse.specs.declared.expression.reader.Mode.TheVariants as mode
 use Rattle.sql_parse.specs.declared.expression.reader.Reader.{Reader}
 use Rattle.sql_parse.specs.Grammar.{begins_integer, GoesOn}
-use Rattle.sql_parse.specs.Expressions.{Step, Goes, Ends, Refuses, Deepens, run, step, step_in, operand_step, finished, at_end, by_step, signed}
+use Rattle.sql_parse.specs.inner.Expressions.{Step, Goes, Ends, Refuses, Deepens, run, step, step_in, operand_step, finished, at_end, by_step, signed}
 use Rattle.sql_parse.proofs.ExpressionCounts.{Answer}
 
 -- ---- how many tokens are left

@@ -5,8 +5,8 @@ use Rattle.sql_lex.specs.declared.token.TokenKind.{TokenKind}
 use Rattle.sql_parse.specs.declared.stop.Stop.TheVariants.{Stuck, Deep, NoMemory}
 use Rattle.sql_parse.specs.Trees.{Role, Operator, Opening, Inside, Outside, Mark, mark, kinds, marks, value, Tree, Column}
 use Rattle.sql_parse.specs.Grammar.{since_operators, since_openings, Exceeds, begins_integer}
-use Rattle.sql_parse.specs.Expressions.{Step, Goes, Ends, Refuses, Deepens, run, start, step, finished, closed, settled, at_end, by_step}
-use Rattle.sql_parse.specs.Reading.{expression}
+use Rattle.sql_parse.specs.inner.Expressions.{Step, Goes, Ends, Refuses, Deepens, run, start, step, finished, closed, settled, at_end, by_step}
+use Rattle.sql_parse.specs.inner.Reading.{expression}
 use Rattle.sql_parse.proofs.ExpressionPhrases.{level, IsPhrase}
 use Rattle.sql_parse.proofs.ExpressionLaws.{Fits, EndsOperand, IsDeepAt, ReadIsWritten, StuckIsAtEnd, RefusedIsDeep, ExpressionLaws}
 use Rattle.sql_parse.proofs.ExpressionSteps.{reading}

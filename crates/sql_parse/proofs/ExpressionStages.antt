@@ -6,10 +6,10 @@ use Rattle.sql_lex.specs.declared.token.TokenKind.{TokenKind}
 use Rattle.sql_lex.specs.declared.token.TokenKind.TheVariants as kind
 use Rattle.sql_parse.specs.declared.expression.reader.Mode.{Mode}
 use Rattle.sql_parse.specs.declared.expression.reader.Mode.TheVariants as mode
-use Rattle.sql_parse.specs.Levels.{test_level, sum_level}
+use Rattle.sql_parse.specs.inner.Levels.{test_level, sum_level}
 use Rattle.sql_parse.specs.Trees.{Operator, Mark, mark, inside, kinds, marks, value, Tree, Int, Negative, Null, Column, IsNull, TakesSign}
 use Rattle.sql_parse.specs.Grammar.{begins_integer}
-use Rattle.sql_parse.specs.Expressions.{wanted}
+use Rattle.sql_parse.specs.inner.Expressions.{wanted}
 use Rattle.sql_parse.proofs.ExpressionPhrases.{level, IsPhrase}
 use Rattle.sql_parse.proofs.ExpressionOpened.{Opened, OpenParen, OpenMinus, OpenNot, OpenLeft, frames_of, around, AreOpen, Signs, signs_any, Fitted, wanted_within, Continues, close_all}
 

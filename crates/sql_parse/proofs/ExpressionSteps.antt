@@ -12,9 +12,10 @@ use Rattle.sql_parse.specs.declared.expression.frame.Frame.TheVariants as frame
 use Rattle.sql_parse.specs.declared.expression.reader.Mode.{Mode}
 use Rattle.sql_parse.specs.declared.expression.reader.Mode.TheVariants as mode
 use Rattle.sql_parse.specs.declared.expression.reader.Reader.{Reader}
-use Rattle.sql_parse.specs.Kinds.{operator_of, operator_kind, is_keyword, is_symbol}
-use Rattle.sql_parse.specs.Levels.{level_of, left_of, test_level, sum_level}
-use Rattle.sql_parse.specs.Expressions.{wanted, is_closed, applied, frame_level, Held, settled, with_operator, infix_step, is_step, close_step, end_step, behind_step, complete_step, step, finished, closed, at_end, by_step, run}
+use Rattle.sql_parse.specs.Kinds.{operator_kind}
+use Rattle.sql_parse.specs.inner.Kinds.{operator_of, is_keyword, is_symbol}
+use Rattle.sql_parse.specs.inner.Levels.{level_of, left_of, test_level, sum_level}
+use Rattle.sql_parse.specs.inner.Expressions.{wanted, is_closed, applied, frame_level, Held, settled, with_operator, infix_step, is_step, close_step, end_step, behind_step, complete_step, step, finished, closed, at_end, by_step, run}
 use Rattle.sql_parse.proofs.ExpressionTokens.{kind_operator, level_within, level_differs, bound_by, bound_behind}
 
 abbrev pub reading : Mode → List Frame → ℕ → ℕ → Reader

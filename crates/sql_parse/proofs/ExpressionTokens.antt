@@ -11,8 +11,9 @@ use Rattle.sql_lex.specs.declared.symbol.Symbol.TheVariants as symbol
 use Rattle.sql_lex.specs.contracts.symbol.Symbol as symbols
 use Rattle.sql_lex.specs.declared.token.TokenKind.{TokenKind}
 use Rattle.sql_lex.specs.declared.token.TokenKind.TheVariants as kind
-use Rattle.sql_parse.specs.Kinds.{operator_of, operator_kind, is_keyword, is_symbol}
-use Rattle.sql_parse.specs.Levels.{level_of, left_of, test_level}
+use Rattle.sql_parse.specs.Kinds.{operator_kind}
+use Rattle.sql_parse.specs.inner.Kinds.{operator_of, is_keyword, is_symbol}
+use Rattle.sql_parse.specs.inner.Levels.{level_of, left_of, test_level}
 use Rattle.sql_parse.specs.Grammar.{begins_integer, GoesOn}
 
 -- ---- operators

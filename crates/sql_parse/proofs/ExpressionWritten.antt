@@ -10,10 +10,10 @@ use Rattle.sql_parse.specs.declared.expression.frame.Frame.{Frame}
 use Rattle.sql_parse.specs.declared.expression.frame.Frame.TheVariants as frame
 use Rattle.sql_parse.specs.declared.expression.reader.Mode.TheVariants as mode
 use Rattle.sql_parse.specs.Kinds.{operator_kind}
-use Rattle.sql_parse.specs.Levels.{level_of, whole_level, sign_level}
+use Rattle.sql_parse.specs.inner.Levels.{level_of, whole_level, sign_level}
 use Rattle.sql_parse.specs.Trees.{Operator, Opening, Mark, mark, kinds, inside, marks, value, Tree, Int, Negative, Text, Truth, Null, Column, Paren, Minus, Infix, Not, IsNull, TakesSign, null_kinds}
 use Rattle.sql_parse.specs.Grammar.{begins_integer}
-use Rattle.sql_parse.specs.Expressions.{wanted, applied, is_closed, frame_level, run, step, operand_step, complete_step, by_step, finished, column, signed}
+use Rattle.sql_parse.specs.inner.Expressions.{wanted, applied, is_closed, frame_level, run, step, operand_step, complete_step, by_step, finished, column, signed}
 use Rattle.sql_parse.proofs.ExpressionPhrases.{level, IsPhrase}
 use Rattle.sql_parse.proofs.ExpressionTokens.{level_within, left_tight, bound_behind, begins_dot, Behind, behind_operator}
 use Rattle.sql_parse.proofs.ExpressionSteps.{reading, absorb, at_operator, at_is}

@@ -9,14 +9,14 @@ use Rattle.sql_lex.specs.declared.symbol.Symbol.TheVariants as symbol
 use Rattle.sql_lex.specs.declared.token.Token.{Token}
 use Rattle.sql_lex.specs.declared.token.TokenKind.{TokenKind}
 use Rattle.sql_lex.specs.declared.token.TokenKind.TheVariants as kind
-use Rattle.sql_lex.specs.Tokens.{tokens_of}
+use Rattle.sql_lex.specs.inner.Tokens.{tokens_of}
 use Rattle.sql_lex.specs.Grammar.{Spells, AreSlicesFrom}
-use Rattle.sql_lex.proofs.Slices.{tokens_are_slices}
+use Rattle.sql_lex.specs.laws.Slices.{tokens_are_slices}
 use Rattle.sql_parse.specs.Kinds.{operator_kind}
-use Rattle.sql_parse.specs.Parsing.{kinds_of}
+use Rattle.sql_parse.specs.Places.{kinds_of}
 use Rattle.sql_parse.specs.Trees.{Role, Mark, Inside, Opening, Operator, mark, kinds, Tree, Int, Negative, Text, Truth, Null, Column, Paren, Minus, Infix, Not, IsNull, column_kinds, marks, value, inside, null_kinds}
 use Rattle.sql_parse.proofs.PrintedPieces.{Prints, PrintsAlone, MayOpen, opens_by, blank_opens, loose, behind, behind_alone, after, both, spaced, indented, token, lone}
-use Rattle.sql_parse.proofs.PrintedWords.{keyword, operator, number, quoted}
+use Rattle.sql_parse.proofs.PrintedWords.{keyword, operator, number, text_in_quotes}
 use Rattle.sql_parse.proofs.PrintedTrees.{canonical}
 use Rattle.sql_parse.proofs.PrintedLevels.{literal_of, column_of, neg_of, not_of, binary_of, null_test_of}
 
@@ -90,7 +90,7 @@ expression_prints (Int n) all = shown _ (literal_of (cell.Int (pos n))) (number 
 expression_prints (Negative zero) all = shown _ (literal_of (cell.Int (pos 0))) (number Inside 0 (omega arith))
 expression_prints (Negative (suc n)) all =
     shown _ (literal_of (cell.Int (negsuc n))) (after (lone Inside symbol.Minus (λ next h. h)) (number Inside (suc n) (number_fits (suc n) all.1.0)))
-expression_prints (Text text) all = shown _ (literal_of (cell.Text text)) (quoted Inside text all.0.1.1)
+expression_prints (Text text) all = shown _ (literal_of (cell.Text text)) (text_in_quotes Inside text all.0.1.1)
 expression_prints (Truth true) all = shown _ (literal_of (cell.Truth true)) (keyword Inside KTrue)
 expression_prints (Truth false) all = shown _ (literal_of (cell.Truth false)) (keyword Inside KFalse)
 expression_prints Null all = shown _ (literal_of cell.Null) (keyword Inside KNull)

@@ -1,6 +1,7 @@
 -- The canonical text of each kind of expression.
 use Rattle.std.proofs.Common.{◌≡◌, ℕ, Bool, List, ◌++◌, sym, ap, ◌∙◌, codes}
 use Rattle.geo_base.specs.declared.cell.Cell.{Cell}
+use Rattle.geo_base.specs.Texts.{cell_text}
 use Rattle.sql_ast.specs.declared.ast.Ast.{Ast}
 use Rattle.sql_ast.specs.declared.ast.Ast.TheOpen.{Ast-F}
 use Rattle.sql_ast.specs.declared.ast.Ast.TheVariants as ast
@@ -8,9 +9,9 @@ use Rattle.sql_ast.specs.declared.ast.Ast.TheVariants.{rolls-Lit, rolls-Column, 
 use Rattle.sql_ast.specs.declared.ast.Ast.TheFolds.{fold-roll-Ast}
 use Rattle.sql_ast.specs.declared.ast.AstOp.{AstOp}
 use Rattle.sql_ast.specs.declared.ast.ColRef.{ColRef}
-use Rattle.sql_ast.specs.Printing.{level_text, literal_text, column_text, null_test_text, operator_text, expression_text}
+use Rattle.sql_ast.specs.Printing.{level_text, column_text, null_test_text, operator_text, expression_text}
 
-pub literal_of : (cell : Cell) → expression_text (ast.Lit cell) ≡ literal_text cell
+pub literal_of : (cell : Cell) → expression_text (ast.Lit cell) ≡ cell_text cell
 unfolding expression_text
 literal_of cell = ap expression_text (sym (rolls-Lit cell)) ∙ fold-roll-Ast (List ℕ) level_text (Ast-F.Lit cell)
 

@@ -9,10 +9,10 @@ use Rattle.sql_lex.specs.declared.token.TokenKind.{TokenKind}
 use Rattle.sql_lex.specs.declared.token.TokenKind.TheVariants as kind
 use Rattle.sql_lex.specs.Bytes.{is_blank, is_in_word}
 use Rattle.sql_lex.specs.Symbols.{symbol_bytes}
-use Rattle.sql_lex.specs.Tokens.{tokens_of}
+use Rattle.sql_lex.specs.inner.Tokens.{tokens_of}
 use Rattle.sql_lex.specs.Grammar.{Spells, Lengthens, EndsAt, AreCutFrom}
-use Rattle.sql_lex.proofs.Cuts.{cut_is_tokens}
-use Rattle.sql_parse.specs.Parsing.{kinds_of}
+use Rattle.sql_lex.specs.laws.Cuts.{cut_is_tokens}
+use Rattle.sql_parse.specs.Places.{kinds_of}
 use Rattle.sql_parse.specs.Trees.{Role, Mark, mark, kinds}
 
 -- ---- texts

@@ -4,14 +4,14 @@ use Rattle.std.specs.List.{flat_map}
 use Rattle.std.specs.Fmt.{decimal}
 use Rattle.sql_ast.specs.declared.ast.ColRef.{ColRef}
 use Rattle.sql_ast.specs.declared.select.TableRef.{TableRef}
+use Rattle.geo_base.specs.Texts.{commas}
 use Rattle.sql_ast.specs.Printing.{list_clause, column_text, expression_text, alias_text, aggregate_text, value_text, item_text, items_text, table_text, join_text, filter_text, order_text, limit_text, select_text}
-use Rattle.sql_ast.specs.Printing as printing
 use Rattle.sql_lex.specs.declared.keyword.Keyword.{Keyword}
 use Rattle.sql_lex.specs.declared.keyword.Keyword.TheVariants.{KSelect, KFrom, KWhere, KJoin, KOn, KGroup, KBy, KOrder, KDesc, KLimit, KAs, KCount, KSum, KMin, KMax}
 use Rattle.sql_lex.specs.declared.symbol.Symbol.TheVariants as symbol
 use Rattle.sql_lex.specs.Keywords.{capitals}
 use Rattle.sql_parse.specs.Trees.{Outside, Mark, kinds, Tree, marks, value}
-use Rattle.sql_parse.specs.Forms.{word, sign, number_marks, column_marks, maybe, Several, listed, commas, alias_marks, table_marks, ValueForm, Plain, CountAll, Count, Sum, Min, Max, aggregate_marks, value_marks, value_of, ItemForm, item_marks, item_of, ItemsForm, Star, Listed, items_marks, items_of, JoinForm, join_marks, join_of, filter_marks, listed_if, OrderForm, direction_marks, ordered_marks, ordered_of, SelectForm, query_marks, select_of}
+use Rattle.sql_parse.specs.Forms.{word, sign, number_marks, column_marks, maybe, Several, listed, several_marks, alias_marks, table_marks, ValueForm, Plain, CountAll, Count, Sum, Min, Max, aggregate_marks, value_marks, value_of, ItemForm, item_marks, item_of, ItemsForm, Star, Listed, items_marks, items_of, JoinForm, join_marks, join_of, filter_marks, listed_if, OrderForm, direction_marks, ordered_marks, ordered_of, SelectForm, query_marks, select_of}
 use Rattle.sql_parse.proofs.PrintedPieces.{Prints, PrintsAlone, opens_by, opens_blank, MayOpen, nothing_opens, blank_opens, loose, behind, behind_alone, after, both, nothing, spaced, indented, indented_alone, lone}
 use Rattle.sql_parse.proofs.PrintedWords.{keyword, number}
 use Rattle.sql_parse.proofs.PrintedTrees.{canonical}
@@ -48,7 +48,7 @@ module _ {T S : Type 0} (written : T → List Mark) (out : T → T) (of : T → 
       let more : List Mark = flat_map (λ other. sign symbol.Comma ++ written other) xs in
       behind (after comma (each x (front_of (written x) more all.1))) (others_open xs) (others_print xs (rest_of (written x) more all.1))
 
-  pub commas_print : (s : Several T) → AreSpelled (kinds (commas written s)) → Prints (commas written (several out s)) (printing.commas text (map of (listed s)))
+  pub commas_print : (s : Several T) → AreSpelled (kinds (several_marks written s)) → Prints (several_marks written (several out s)) (commas text (map of (listed s)))
   commas_print s all =
       let more : List Mark = flat_map (λ other. sign symbol.Comma ++ written other) s.others in
       behind (each s.first (front_of (written s.first) more all)) (others_open s.others) (others_print s.others (rest_of (written s.first) more all))
@@ -59,10 +59,10 @@ map_nothing (x ∷ xs) = ap (λ l. x ∷ l) (map_nothing xs)
 
 -- the same where nothing is changed
 pub plain_commas : {T : Type 0} (written : T → List Mark) (text : T → List ℕ) → ((x : T) → AreSpelled (kinds (written x)) → Prints (written x) (text x)) → (s : Several T)
-    → AreSpelled (kinds (commas written s)) → Prints (commas written s) (printing.commas text (listed s))
+    → AreSpelled (kinds (several_marks written s)) → Prints (several_marks written s) (commas text (listed s))
 plain_commas written text each s all =
     let others : map (λ x. x) s.others ≡ s.others = map_nothing s.others in
-    subst (λ l. Prints (commas written (record { first = s.first; others = l })) (printing.commas text (s.first ∷ l))) others
+    subst (λ l. Prints (several_marks written (record { first = s.first; others = l })) (commas text (s.first ∷ l))) others
     (commas_print written (λ x. x) (λ x. x) text each s all)
 
 -- ---- tables
@@ -127,11 +127,11 @@ filter_prints None all = nothing
 filter_prints (Some e) all = after (between KWhere) (expression_prints e all.1)
 
 abbrev group_marks : Option (Several ColRef) → List Mark
-group_marks group = maybe (λ columns. word KGroup ++ word KBy ++ commas column_marks columns) group
+group_marks group = maybe (λ columns. word KGroup ++ word KBy ++ several_marks column_marks columns) group
 
 group_opens : (group : Option (Several ColRef)) → MayOpen (list_clause (codes " GROUP BY ") column_text (listed_if group))
 group_opens None = nothing_opens
-group_opens (Some s) = blank_opens (codes "GROUP BY " ++ printing.commas column_text (listed s))
+group_opens (Some s) = blank_opens (codes "GROUP BY " ++ commas column_text (listed s))
 
 group_prints : (group : Option (Several ColRef)) → AreSpelled (kinds (group_marks group)) → Prints (group_marks group) (list_clause (codes " GROUP BY ") column_text (listed_if group))
 group_prints None all = nothing
@@ -151,11 +151,11 @@ ordered_prints order all =
     behind (column_prints Outside order.column (front_of (column_marks order.column) (maybe direction_marks order.direction) all)) (direction_opens descending) (direction_prints descending)
 
 abbrev order_marks : Option (Several OrderForm) → List Mark
-order_marks order = maybe (λ columns. word KOrder ++ word KBy ++ commas ordered_marks columns) order
+order_marks order = maybe (λ columns. word KOrder ++ word KBy ++ several_marks ordered_marks columns) order
 
 order_opens : (order : Option (Several OrderForm)) → MayOpen (list_clause (codes " ORDER BY ") order_text (map ordered_of (listed_if order)))
 order_opens None = nothing_opens
-order_opens (Some s) = blank_opens (codes "ORDER BY " ++ printing.commas order_text (map ordered_of (listed s)))
+order_opens (Some s) = blank_opens (codes "ORDER BY " ++ commas order_text (map ordered_of (listed s)))
 
 order_prints : (order : Option (Several OrderForm)) → AreSpelled (kinds (order_marks order))
     → Prints (order_marks (option_map (several canonical_order) order)) (list_clause (codes " ORDER BY ") order_text (map ordered_of (listed_if order)))

@@ -3,11 +3,12 @@ use Rattle.std.proofs.Common.{◌≡◌, ℕ, List, [], ◌++◌, Ok, sym, ap, �
 use Rattle.sql_ast.specs.declared.statement.Statement.{Statement}
 use Rattle.sql_ast.specs.Printing.{printed}
 use Rattle.sql_lex.specs.declared.token.Token.{Token}
-use Rattle.sql_lex.specs.Tokens.{tokens_of}
+use Rattle.sql_lex.specs.inner.Tokens.{tokens_of}
 use Rattle.sql_parse.specs.Trees.{Mark, Tree, kinds}
 use Rattle.sql_parse.specs.Forms.{statement_marks, statement_of}
-use Rattle.sql_parse.specs.Parsing.{kinds_of, parsed}
-use Rattle.sql_parse.specs.Reading.{whole}
+use Rattle.sql_parse.specs.inner.Parsing.{parsed}
+use Rattle.sql_parse.specs.Places.{kinds_of}
+use Rattle.sql_parse.specs.inner.Reading.{whole}
 use Rattle.sql_parse.proofs.ExpressionSound.{expression_laws}
 use Rattle.sql_parse.proofs.StatementReading.{IsFitting, statement_sound, statement_complete}
 use Rattle.sql_parse.proofs.StatementTexts.{texts_of_statements}

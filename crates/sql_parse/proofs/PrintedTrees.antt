@@ -8,7 +8,7 @@ use Rattle.sql_lex.specs.declared.symbol.Symbol.TheVariants.{Close}
 use Rattle.sql_lex.specs.declared.token.TokenKind.{TokenKind}
 use Rattle.sql_lex.specs.declared.token.TokenKind.TheVariants as kind
 use Rattle.sql_parse.specs.Kinds.{operator_kind}
-use Rattle.sql_parse.specs.Levels.{left_of, right_of, sign_level}
+use Rattle.sql_parse.specs.inner.Levels.{left_of, right_of, sign_level}
 use Rattle.sql_parse.specs.Trees.{Mark, Operator, mark, Tree, Int, Negative, Text, Truth, Null, Column, Paren, Minus, Infix, Not, IsNull, column_kinds, marks, value, inside, null_kinds}
 use Rattle.sql_parse.specs.Grammar.{since_operators, since_openings}
 use Rattle.sql_parse.proofs.ExpressionPhrases.{level, IsPhrase}

@@ -1,5 +1,5 @@
 -- What spells each token that a canonical text has.
-use Rattle.std.proofs.Common.{◌≡◌, ◌<◌, ◌≤◌, ◌^◌, ◌==◌, ◌&&◌, nat_lt, nat_le, ℕ, pos, Bool, true, false, cond, List, [], ◌∷◌, ◌++◌, length, get_or, refl, sym, ap, arith, codes}
+use Rattle.std.proofs.Common.{◌≡◌, ◌<◌, ◌≤◌, ◌^◌, ◌&&◌, nat_lt, nat_le, ℕ, pos, Bool, true, false, List, [], ◌∷◌, length, get_or, refl, sym, arith, codes}
 use Rattle.std.proofs.lemmas.Bool.Decides.{nat_tests}
 use Rattle.std.proofs.lemmas.Fmt.{decimal_is_IsNumeral, decimal_nonempty}
 use Rattle.std.specs.Char.{is_ascii_digit, digit_value}
@@ -8,17 +8,17 @@ use Rattle.std.specs.List.{list_all}
 use Rattle.std.specs.Str.{str_eq_ignore_ascii_case}
 use Rattle.std.specs.Str.Parse.{AllDigits}
 use Rattle.geo_base.specs.declared.limits.TheConstants.{MAX_TEXT_BYTES, MAX_NAME_BYTES}
+use Rattle.geo_base.specs.Texts.{quoted}
 use Rattle.sql_ast.specs.declared.ast.AstOp.{AstOp}
 use Rattle.sql_ast.specs.declared.ast.AstOp.TheVariants as op
-use Rattle.sql_ast.specs.Printing.{quoted_text, operator_text}
-use Rattle.sql_ast.specs.Printing as ast
+use Rattle.sql_ast.specs.Printing.{operator_text}
 use Rattle.sql_lex.specs.declared.keyword.Keyword.{Keyword}
 use Rattle.sql_lex.specs.declared.keyword.Keyword.TheVariants.{KSelect, KInsert, KInto, KValues, KUpdate, KSet, KDelete, KFrom, KWhere, KJoin, KOn, KGroup, KBy, KOrder, KAsc, KDesc, KLimit, KAs, KBegin, KOf, KEpoch, KCommit, KRollback, KExplain, KAnd, KOr, KNot, KIs, KNull, KTrue, KFalse, KCount, KSum, KMin, KMax, KInt, KText, KBool, KKey, KFor, KUnique}
 use Rattle.sql_lex.specs.declared.symbol.Symbol.TheVariants as symbol
 use Rattle.sql_lex.specs.declared.token.TokenKind.TheVariants as kind
 use Rattle.sql_lex.specs.Bytes.{begins_word, is_in_word}
 use Rattle.sql_lex.specs.Keywords.{capitals}
-use Rattle.sql_lex.specs.Grammar.{IsNumeral, doubled, Spells}
+use Rattle.sql_lex.specs.Grammar.{IsNumeral, Spells}
 use Rattle.sql_parse.specs.Kinds.{operator_kind}
 use Rattle.sql_parse.specs.Trees.{Role, mark}
 use Rattle.sql_parse.proofs.PrintedPieces.{Prints, token}
@@ -125,13 +125,5 @@ number role n fits = token role (kind.Int (pos n)) (decimal n) (n, refl, numeral
 
 -- ---- texts
 
-doubled_alike : (text : List ℕ) → ast.doubled text ≡ doubled text
-doubled_alike [] = refl
-doubled_alike (b ∷ text) = by (b == 39) (doubled_alike text)
-  where
-    by : (v : Bool) → ast.doubled text ≡ doubled text → cond v (39 ∷ 39 ∷ []) (b ∷ []) ++ ast.doubled text ≡ cond v (39 ∷ (39 ∷ doubled text)) (b ∷ doubled text)
-    by true alike = ap (λ l. 39 ∷ 39 ∷ l) alike
-    by false alike = ap (λ l. b ∷ l) alike
-
-pub quoted : (role : Role) (text : List ℕ) → length text ≤ MAX_TEXT_BYTES → Prints (mark role (kind.Text text) ∷ []) (quoted_text text)
-quoted role text few = token role (kind.Text text) (quoted_text text) (ap (λ l. 39 ∷ (l ++ 39 ∷ [])) (doubled_alike text), few)
+pub text_in_quotes : (role : Role) (text : List ℕ) → length text ≤ MAX_TEXT_BYTES → Prints (mark role (kind.Text text) ∷ []) (quoted text)
+text_in_quotes role text few = token role (kind.Text text) (quoted text) (refl, few)

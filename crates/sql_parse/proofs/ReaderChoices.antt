@@ -5,7 +5,7 @@ use Rattle.sql_lex.specs.declared.symbol.Symbol.{Symbol}
 use Rattle.sql_lex.specs.declared.token.TokenKind.{TokenKind}
 use Rattle.sql_lex.specs.declared.token.TokenKind.TheVariants as kind
 use Rattle.sql_parse.specs.declared.stop.Stop.TheVariants.{Stuck, Deep, NoMemory}
-use Rattle.sql_parse.specs.Reading.{Outcome, Parser, ◌>>◌, pure, begins, keyword, symbol}
+use Rattle.sql_parse.specs.inner.Reading.{Outcome, Parser, ◌>>◌, pure, begins, keyword, symbol}
 use Rattle.sql_parse.proofs.ExpressionPhrases.{IsPhrase}
 use Rattle.sql_parse.proofs.ExpressionLaws.{Fits}
 use Rattle.sql_parse.proofs.ReaderParts.{Part, Word, Phrase, before, Every, Apart, Overruns, SameFirst, same_onto, same_before}

@@ -7,10 +7,10 @@ use Rattle.sql_lex.specs.declared.symbol.Symbol.TheVariants as symbol
 use Rattle.sql_lex.specs.declared.token.TokenKind.{TokenKind}
 use Rattle.sql_lex.specs.declared.token.TokenKind.TheVariants as kind
 use Rattle.sql_parse.specs.declared.stop.Stop.TheVariants.{Stuck, Deep, NoMemory}
-use Rattle.sql_parse.specs.Kinds.{operator_of, is_keyword, is_symbol}
+use Rattle.sql_parse.specs.inner.Kinds.{operator_of, is_keyword, is_symbol}
 use Rattle.sql_parse.specs.Trees.{Tree, Mark, marks, kinds, value}
 use Rattle.sql_parse.specs.Trees.Tree.{Null, Int, Negative, Text, Truth, Column, Paren, Minus, Infix, Not, IsNull}
-use Rattle.sql_parse.specs.Reading.{Outcome, begins, expression}
+use Rattle.sql_parse.specs.inner.Reading.{Outcome, begins, expression}
 use Rattle.sql_parse.proofs.ExpressionPhrases.{IsPhrase}
 use Rattle.sql_parse.proofs.ExpressionLaws.{ExpressionLaws, Ends, IsRead, IsStuckAt, IsDeepAt}
 use Rattle.sql_parse.proofs.ReaderParts.{Part, Phrase, Overruns, TooDeep, SameFirst}

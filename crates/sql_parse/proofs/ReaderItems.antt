@@ -11,12 +11,12 @@ use Rattle.sql_lex.specs.declared.symbol.Symbol.TheVariants.{Close, Open, Comma}
 use Rattle.sql_lex.specs.declared.symbol.Symbol.TheVariants as star
 use Rattle.sql_lex.specs.declared.token.TokenKind.{TokenKind}
 use Rattle.sql_lex.specs.declared.token.TokenKind.TheVariants as kind
-use Rattle.sql_parse.specs.Kinds.{is_keyword, is_symbol}
+use Rattle.sql_parse.specs.inner.Kinds.{is_keyword, is_symbol}
 use Rattle.sql_parse.specs.Trees.{Tree, value}
 use Rattle.sql_parse.specs.Forms.{Several, ValueForm, ItemForm, ItemsForm, value_of, item_of, items_of, listed}
 use Rattle.sql_parse.specs.Forms.ValueForm.{Plain, CountAll, Count, Sum, Min, Max}
 use Rattle.sql_parse.specs.Forms.ItemsForm.{Star, Listed}
-use Rattle.sql_parse.specs.Reading.{Parser, ◌>>=◌, ◌>>◌, ◌<$>◌, pure, begins, keyword, symbol, expression, argument, counted, count, item_value, item, items, alias, separated}
+use Rattle.sql_parse.specs.inner.Reading.{Parser, ◌>->◌, ◌>>◌, ◌<$>◌, pure, begins, keyword, symbol, expression, argument, counted, count, item_value, item, items, alias, separated}
 use Rattle.sql_parse.proofs.ExpressionLaws.{ExpressionLaws}
 use Rattle.sql_parse.proofs.ReaderParts.{Part, Word, Phrase, before, Overruns}
 use Rattle.sql_parse.proofs.ReaderLaws.{IsReader, Ended, both, chained}
@@ -135,7 +135,7 @@ items_goes = or_goes item_goes (or_goes item_goes (is_symbol Comma))
 module _ (laws : ExpressionLaws) where
   -- ---- arguments
 
-  closed_expression : {A : Type 0} (f : Ast → A) → IsReader (both phrase_parts (λ (a : Unit {0}). sign_part Close ∷ [])) (chained value (λ e a. f e)) never (expression >>= (λ e. symbol Close >> pure (f e)))
+  closed_expression : {A : Type 0} (f : Ast → A) → IsReader (both phrase_parts (λ (a : Unit {0}). sign_part Close ∷ [])) (chained value (λ e a. f e)) never (expression >-> (λ e. symbol Close >> pure (f e)))
   closed_expression f =
       open_then phrase_parts value expression (λ (a : Unit {0}). sign_part Close ∷ []) (λ e a. f e) (λ e. symbol Close >> pure (f e)) expression_goes never
       (expression_reader laws) (λ a. refl)
@@ -155,7 +155,7 @@ module _ (laws : ExpressionLaws) where
   count_reader =
       symbol_then (either star_parts (both phrase_parts (λ (a : Unit {0}). sign_part Close ∷ []))) count_value never counted
       (chosen_clear star_parts (λ a. of_value.CountAll) (symbol star.Star >> symbol Close >> pure of_value.CountAll)
-      (both phrase_parts (λ (a : Unit {0}). sign_part Close ∷ [])) (chained value (λ e a. of_value.Count e)) (expression >>= (λ e. symbol Close >> pure (of_value.Count e)))
+      (both phrase_parts (λ (a : Unit {0}). sign_part Close ∷ [])) (chained value (λ e a. of_value.Count e)) (expression >-> (λ e. symbol Close >> pure (of_value.Count e)))
       (is_symbol star.Star) never
       (mapped star_parts (λ a. a) (symbol star.Star >> symbol Close) (λ a. of_value.CountAll) never
       (symbol_then (λ a. sign_part Close ∷ []) (λ a. a) never (symbol Close) (symbol_reader Close) star.Star))
@@ -277,7 +277,7 @@ module _ (laws : ExpressionLaws) where
   item_reader =
       formed (both value_parts alias_parts) (chained value_of read) item item_goes item_parts item_of (λ form. record { value = form.0; alias = form.1 }) (λ form. (form.value, form.alias))
       (λ form. refl) (λ form. refl) (λ form. refl) (λ form. refl)
-      (open_maybe value_parts value_of item_value alias_parts read (λ v. alias >>= (λ a. pure (record { value = v; alias = a }))) expression_goes alias_goes value_reader
+      (open_maybe value_parts value_of item_value alias_parts read (λ v. alias >-> (λ a. pure (record { value = v; alias = a }))) expression_goes alias_goes value_reader
       leads (λ v. mapped alias_parts (λ a. a) alias (λ a. record { value = v; alias = a }) alias_goes alias_reader))
     where
       read : AstValue → Option (List ℕ) → AstItem

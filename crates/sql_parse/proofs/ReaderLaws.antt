@@ -2,7 +2,7 @@
 use Rattle.std.proofs.Common.{◌≡◌, ◌⊎◌, ℕ, List, [], ◌++◌, length, Bool, true, false, Ok, Err, refl, sym, ap, ◌∙◌, append_assoc, inl, inr, subst}
 use Rattle.sql_lex.specs.declared.token.TokenKind.{TokenKind}
 use Rattle.sql_parse.specs.declared.stop.Stop.TheVariants.{Stuck, Deep, NoMemory}
-use Rattle.sql_parse.specs.Reading.{Outcome, Parser, and_then, ◌>>=◌, begins}
+use Rattle.sql_parse.specs.inner.Reading.{Outcome, Parser, and_then, ◌>->◌, begins}
 use Rattle.sql_parse.proofs.ExpressionPhrases.{IsPhrase}
 use Rattle.sql_parse.proofs.ExpressionLaws.{Fits}
 use Rattle.sql_parse.proofs.ReaderParts.{Part, before, Every, Apart, Overruns, Later, SameFirst, before_append, before_onto, every_append, overruns_left, overruns_right, overruns_split, same_onto, same_before}
@@ -75,7 +75,7 @@ chained value next form = next (value form.0) form.1
 
 module _ {F G A B : Type 0} (parts : F → List Part) (value : F → A) (p : Parser A) (others : G → List Part) (next : A → G → B) (q : A → Parser B) where
   given_given : (tokens rest end : List TokenKind) (a : A) (b : B) → IsGiven parts value p tokens a rest → IsGiven others (next a) (q a) rest b end →
-      IsGiven (both parts others) (chained value next) (p >>= q) tokens b end
+      IsGiven (both parts others) (chained value next) (p >-> q) tokens b end
   given_given tokens rest end a b first second = record {
     form = (first.form, second.form);
     lawful = every_append IsPhrase (parts first.form) (others second.form) first.lawful second.lawful;
@@ -89,7 +89,7 @@ module _ {F G A B : Type 0} (parts : F → List Part) (value : F → A) (p : Par
   }
 
   given_held : (tokens rest : List TokenKind) (left : ℕ) (a : A) → IsGiven parts value p tokens a rest → IsHeld others (q a) rest left →
-      IsHeld (both parts others) (p >>= q) tokens left
+      IsHeld (both parts others) (p >-> q) tokens left
   given_held tokens rest left a first second = record {
     front = before (parts first.form) second.front;
     rest = second.rest;
@@ -114,7 +114,7 @@ module _ {F G A B : Type 0} (parts : F → List Part) (value : F → A) (p : Par
         (overruns_right (parts first.form) (others second.form) rest left first.fits second.over);
   }
 
-  held_first : (tokens : List TokenKind) (left : ℕ) (least : G) → Every IsPhrase (others least) → IsHeld parts p tokens left → IsHeld (both parts others) (p >>= q) tokens left
+  held_first : (tokens : List TokenKind) (left : ℕ) (least : G) → Every IsPhrase (others least) → IsHeld parts p tokens left → IsHeld (both parts others) (p >-> q) tokens left
   held_first tokens left least lawful first = record {
     front = first.front;
     rest = first.rest;
@@ -136,7 +136,7 @@ module _ {F G A B : Type 0} (parts : F → List Part) (value : F → A) (p : Par
   }
 
   second_answers : (tokens rest : List TokenKind) (a : A) → IsGiven parts value p tokens a rest → (o : Outcome B) → Answers others (next a) (q a) rest o →
-      Answers (both parts others) (chained value next) (p >>= q) tokens o
+      Answers (both parts others) (chained value next) (p >-> q) tokens o
   second_answers tokens rest a first (Ok read) second = given_given tokens rest read.1 a read.0 first second
   second_answers tokens rest a first (Err (Stuck left)) second = given_held tokens rest left a first second
   second_answers tokens rest a first (Err (Deep left)) second = given_over tokens rest left a first second
@@ -144,7 +144,7 @@ module _ {F G A B : Type 0} (parts : F → List Part) (value : F → A) (p : Par
 
   both_answer : (tokens : List TokenKind) (least : G) → Every IsPhrase (others least) → (o : Outcome A) → Answers parts value p tokens o →
       ((a : A) (rest : List TokenKind) → o ≡ Ok (a, rest) → Answers others (next a) (q a) rest (q a rest)) →
-      Answers (both parts others) (chained value next) (p >>= q) tokens (and_then o q)
+      Answers (both parts others) (chained value next) (p >-> q) tokens (and_then o q)
   both_answer tokens least lawful (Ok read) first second = second_answers tokens read.1 read.0 first (q read.0 read.1) (second read.0 read.1 refl)
   both_answer tokens least lawful (Err (Stuck left)) first second = held_first tokens left least lawful first
   both_answer tokens least lawful (Err (Deep left)) first second = over_first tokens left least lawful first
@@ -152,11 +152,11 @@ module _ {F G A B : Type 0} (parts : F → List Part) (value : F → A) (p : Par
 
   pub sequence_answers : (tokens : List TokenKind) (least : G) → Every IsPhrase (others least) → Answers parts value p tokens (p tokens) →
       ((a : A) (rest : List TokenKind) → p tokens ≡ Ok (a, rest) → Answers others (next a) (q a) rest (q a rest)) →
-      Answers (both parts others) (chained value next) (p >>= q) tokens ((p >>= q) tokens)
+      Answers (both parts others) (chained value next) (p >-> q) tokens ((p >-> q) tokens)
   sequence_answers tokens least lawful first second = both_answer tokens least lawful (p tokens) first second
 
   pub sequence_completes : (f : F) (g : G) (rest : List TokenKind) → p (before (parts f) (before (others g) rest)) ≡ Ok (value f, before (others g) rest) →
-      q (value f) (before (others g) rest) ≡ Ok (next (value f) g, rest) → (p >>= q) (before (parts f ++ others g) rest) ≡ Ok (next (value f) g, rest)
+      q (value f) (before (others g) rest) ≡ Ok (next (value f) g, rest) → (p >-> q) (before (parts f ++ others g) rest) ≡ Ok (next (value f) g, rest)
   sequence_completes f g rest first second =
       ap (λ l. and_then (p l) q) (before_append (parts f) (others g) rest) ∙ ap (λ o. and_then o q) first ∙ second
 
@@ -164,9 +164,9 @@ module _ {F G A B : Type 0} (parts : F → List Part) (value : F → A) (p : Par
       ((left : ℕ) → Overruns (parts f) tokens left → p tokens ≡ Err (Deep left)) →
       ((rest : List TokenKind) (left : ℕ) → Every Fits (parts f) → Overruns (others g) rest left → p (before (parts f) rest) ≡ Ok (value f, rest)) →
       ((rest : List TokenKind) (left : ℕ) → Overruns (others g) rest left → q (value f) rest ≡ Err (Deep left)) →
-      (p >>= q) tokens ≡ Err (Deep left)
+      (p >-> q) tokens ≡ Err (Deep left)
   sequence_deepens f g tokens left over first passes second = by (overruns_split (parts f) (others g) tokens left over)
     where
-      by : Overruns (parts f) tokens left ⊎ Later (parts f) (others g) tokens left → (p >>= q) tokens ≡ Err (Deep left)
+      by : Overruns (parts f) tokens left ⊎ Later (parts f) (others g) tokens left → (p >-> q) tokens ≡ Err (Deep left)
       by (inl here) = ap (λ o. and_then o q) (first left here)
       by (inr later) = ap (λ l. and_then (p l) q) later.1 ∙ ap (λ o. and_then o q) (passes later.0 left later.2 later.3) ∙ second later.0 left later.3

@@ -4,10 +4,10 @@ use Rattle.std.proofs.Common.{◌≡◌, ◌≤◌, ◌<◌, ◌⊎◌, ℕ, zer
 use Rattle.sql_lex.specs.declared.symbol.Symbol.TheVariants.{Comma}
 use Rattle.sql_lex.specs.declared.token.TokenKind.{TokenKind}
 use Rattle.sql_lex.specs.declared.token.TokenKind.TheVariants as kind
-use Rattle.sql_parse.specs.Kinds.{is_symbol}
+use Rattle.sql_parse.specs.inner.Kinds.{is_symbol}
 use Rattle.sql_parse.specs.Trees.{marks, kinds}
 use Rattle.sql_parse.specs.Forms.{Several, listed}
-use Rattle.sql_parse.specs.Reading.{Outcome, Parser, and_then, ◌>>=◌, ◌>>◌, pure, begins, symbol, others, separated}
+use Rattle.sql_parse.specs.inner.Reading.{Outcome, Parser, and_then, ◌>->◌, ◌>>◌, pure, begins, symbol, others, separated}
 use Rattle.sql_parse.proofs.ExpressionPhrases.{IsPhrase}
 use Rattle.sql_parse.proofs.ExpressionLaws.{Fits}
 use Rattle.sql_parse.proofs.ReaderParts.{Part, Word, Phrase, before, Apart, fresh_after, every_left, every_right, apart_append}
@@ -40,7 +40,7 @@ module _ {F A : Type 0} (parts : F → List Part) (value : F → A) (goes : Toke
   rest_of tokens = others (length tokens) p tokens
 
   abbrev more_by : Parser (List A) → Parser (List A)
-  more_by q = symbol Comma >> p >>= (λ first. q >>= (λ more. pure (first ∷ more)))
+  more_by q = symbol Comma >> p >-> (λ first. q >-> (λ more. pure (first ∷ more)))
 
   shorter : (tokens : List TokenKind) (o : Outcome A) → Answers (comma_parts parts) value (symbol Comma >> p) tokens o → (a : A) (rest : List TokenKind) → o ≡ Ok (a, rest) → length rest < length tokens
   shorter tokens (Ok read) given a rest same =
@@ -54,7 +54,7 @@ module _ {F A : Type 0} (parts : F → List Part) (value : F → A) (goes : Toke
   more_same q r tokens same = by ((symbol Comma >> p) tokens) (λ a rest e. same a rest (shorter tokens ((symbol Comma >> p) tokens) (comma_reader.answers tokens) a rest e))
     where
       by : (o : Outcome A) → ((a : A) (rest : List TokenKind) → o ≡ Ok (a, rest) → q rest ≡ r rest) →
-          and_then o (λ first. q >>= (λ more. pure (first ∷ more))) ≡ and_then o (λ first. r >>= (λ more. pure (first ∷ more)))
+          and_then o (λ first. q >-> (λ more. pure (first ∷ more))) ≡ and_then o (λ first. r >-> (λ more. pure (first ∷ more)))
       by (Ok read) same = ap (λ o. and_then o (λ more. pure (read.0 ∷ more))) (same read.0 read.1 refl)
       by (Err stop) same = refl
 
@@ -129,7 +129,7 @@ module _ {F A : Type 0} (parts : F → List Part) (value : F → A) (goes : Toke
       (formed_answer (either (both (comma_parts parts) (list_parts parts)) none_parts) (either more_value none_value) chooses goes (list_parts parts) (map value)
       to from to_parts to_value from_parts from_value tokens (chooses tokens)
       (choice_answer (both (comma_parts parts) (list_parts parts)) more_value (more_by rest_of) none_parts none_value (pure []) (is_symbol Comma) tokens
-      (sequence_answers (comma_parts parts) value (symbol Comma >> p) (list_parts parts) (λ a forms. a ∷ map value forms) (λ first. rest_of >>= (λ more. pure (first ∷ more)))
+      (sequence_answers (comma_parts parts) value (symbol Comma >> p) (list_parts parts) (λ a forms. a ∷ map value forms) (λ first. rest_of >-> (λ more. pure (first ∷ more)))
       tokens [] tt (comma_reader.answers tokens)
       (λ a rest e. mapped_answer (list_parts parts) (map value) rest_of (λ more. a ∷ more) rest (rest_of rest)
       (earlier rest (shorter tokens ((symbol Comma >> p) tokens) (comma_reader.answers tokens) a rest e))))
@@ -163,7 +163,7 @@ module _ {F A : Type 0} (parts : F → List Part) (value : F → A) (goes : Toke
       rest_opened rest ∙ skipped none_parts none_value (more_by rest_of) none_parts none_value (pure []) (is_symbol Comma) rest (ended_right goes (is_symbol Comma) rest ended)
   rest_completes apart (form ∷ forms) rest lawful fits ended =
       rest_picked (kind.Symbol Comma ∷ before (parts form ++ list_parts parts forms) rest) (at_comma (before (parts form ++ list_parts parts forms) rest))
-      ∙ sequence_completes (comma_parts parts) value (symbol Comma >> p) (list_parts parts) (λ a forms. a ∷ map value forms) (λ first. rest_of >>= (λ more. pure (first ∷ more)))
+      ∙ sequence_completes (comma_parts parts) value (symbol Comma >> p) (list_parts parts) (λ a forms. a ∷ map value forms) (λ first. rest_of >-> (λ more. pure (first ∷ more)))
       form forms rest
       (comma_reader.complete form (before (list_parts parts forms) rest) (every_left IsPhrase (parts form) (list_parts parts forms) lawful)
       (every_left Fits (parts form) (list_parts parts forms) fits)
@@ -175,7 +175,7 @@ module _ {F A : Type 0} (parts : F → List Part) (value : F → A) (goes : Toke
   rest_deepens apart [] tokens left lawful over = absurd over
   rest_deepens apart (form ∷ forms) tokens left lawful over =
       rest_picked tokens (ap (begins (is_symbol Comma)) over.1 ∙ at_comma over.0)
-      ∙ sequence_deepens (comma_parts parts) value (symbol Comma >> p) (list_parts parts) (λ a forms. a ∷ map value forms) (λ first. rest_of >>= (λ more. pure (first ∷ more)))
+      ∙ sequence_deepens (comma_parts parts) value (symbol Comma >> p) (list_parts parts) (λ a forms. a ∷ map value forms) (λ first. rest_of >-> (λ more. pure (first ∷ more)))
       form forms tokens left over
       (λ left here. comma_reader.deep form tokens left (every_left IsPhrase (parts form) (list_parts parts forms) lawful) here)
       (λ rest left fits later. comma_reader.complete form rest (every_left IsPhrase (parts form) (list_parts parts forms) lawful) fits
@@ -212,7 +212,7 @@ several_reader {F} parts value goes p reader apart =
     formed (both parts (list_parts parts)) (chained value (λ a forms. a ∷ map value forms)) (separated p) (or_goes goes (or_goes goes (is_symbol Comma)))
     (several_parts parts) (several_value value) to_several from_several (λ form. refl) (λ form. refl) (λ forms. refl) (λ forms. refl)
     (open_maybe parts value p (list_parts parts) (λ a forms. a ∷ map value forms)
-    (λ first. (λ tokens. others (length tokens) p tokens) >>= (λ more. pure (first ∷ more))) goes (or_goes goes (is_symbol Comma)) reader
+    (λ first. (λ tokens. others (length tokens) p tokens) >-> (λ more. pure (first ∷ more))) goes (or_goes goes (is_symbol Comma)) reader
     (list_leads parts value goes p reader apart)
     (λ a. mapped (list_parts parts) (map value) (λ tokens. others (length tokens) p tokens) (λ more. a ∷ more) (or_goes goes (is_symbol Comma)) (rest_reader parts value goes p reader apart)))
   where

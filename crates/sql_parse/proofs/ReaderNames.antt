@@ -8,8 +8,8 @@ use Rattle.sql_lex.specs.declared.symbol.Symbol.{Symbol}
 use Rattle.sql_lex.specs.declared.symbol.Symbol.TheVariants.{Dot}
 use Rattle.sql_lex.specs.declared.token.TokenKind.{TokenKind}
 use Rattle.sql_lex.specs.declared.token.TokenKind.TheVariants as kind
-use Rattle.sql_parse.specs.Kinds.{is_keyword, is_symbol}
-use Rattle.sql_parse.specs.Reading.{Parser, ◌>>=◌, ◌>>◌, ◌<$>◌, pure, keyword, symbol, name, number, after, qualified, column, alias, table}
+use Rattle.sql_parse.specs.inner.Kinds.{is_keyword, is_symbol}
+use Rattle.sql_parse.specs.inner.Reading.{Parser, ◌>->◌, ◌>>◌, ◌<$>◌, pure, keyword, symbol, name, number, after, qualified, column, alias, table}
 use Rattle.sql_parse.proofs.ReaderParts.{Part, Word}
 use Rattle.sql_parse.proofs.ReaderLaws.{IsReader, both, chained}
 use Rattle.sql_parse.proofs.ReaderSequence.{never, or_goes, closed_then, mapped, formed}
@@ -57,7 +57,7 @@ column_reader =
     to from to_parts to_value (λ c. from_parts c.table c.name) (λ c. from_value c.table c.name)
     (closed_then name_parts (λ n. n) name (maybe_parts (behind (kind.Symbol Dot) name_parts)) read qualified column_goes name_reader (λ n. refl)
     (λ first. optional (behind (kind.Symbol Dot) name_parts) (λ second. record { table = Some first; name = second }) never
-    (symbol Dot >> name >>= (λ second. pure (record { table = Some first; name = second }))) (is_symbol Dot) (record { table = None; name = first })
+    (symbol Dot >> name >-> (λ second. pure (record { table = Some first; name = second }))) (is_symbol Dot) (record { table = None; name = first })
     (mapped (behind (kind.Symbol Dot) name_parts) (λ n. n) (symbol Dot >> name) (λ second. record { table = Some first; name = second }) never
     (symbol_then name_parts (λ n. n) never name name_reader Dot))
     (λ second. symbol_itself Dot)))
@@ -111,7 +111,7 @@ unfolding table
 table_reader =
     formed (both name_parts alias_parts) (chained (λ n. n) read) table alias_goes table_parts (λ t. t) (λ form. read form.0 form.1) (λ t. (t.name, t.alias))
     (λ form. refl) (λ form. refl) (λ t. refl) (λ t. refl)
-    (closed_then name_parts (λ n. n) name alias_parts read (λ n. alias >>= (λ a. pure (record { name = n; alias = a }))) alias_goes name_reader (λ n. refl)
+    (closed_then name_parts (λ n. n) name alias_parts read (λ n. alias >-> (λ a. pure (record { name = n; alias = a }))) alias_goes name_reader (λ n. refl)
     (λ n. mapped alias_parts (λ a. a) alias (λ a. record { name = n; alias = a }) alias_goes alias_reader))
   where
     read : List ℕ → Option (List ℕ) → TableRef

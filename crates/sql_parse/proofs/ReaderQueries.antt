@@ -12,10 +12,10 @@ use Rattle.sql_lex.specs.declared.keyword.Keyword.TheVariants.{KFrom, KWhere, KJ
 use Rattle.sql_lex.specs.declared.symbol.Symbol.TheVariants.{Comma}
 use Rattle.sql_lex.specs.declared.token.TokenKind.{TokenKind}
 use Rattle.sql_lex.specs.declared.token.TokenKind.TheVariants as kind
-use Rattle.sql_parse.specs.Kinds.{is_keyword, is_symbol}
+use Rattle.sql_parse.specs.inner.Kinds.{is_keyword, is_symbol}
 use Rattle.sql_parse.specs.Trees.{Tree, value}
 use Rattle.sql_parse.specs.Forms.{Several, listed, listed_if, ItemsForm, items_of, JoinForm, join_of, OrderForm, ordered_of, SelectForm, select_of}
-use Rattle.sql_parse.specs.Reading.{Parser, ◌>>=◌, ◌>>◌, pure, keyword, number, separated, clause, expression, column, table, items, joined, join, filter, group, descending, ordered, order, limit, select}
+use Rattle.sql_parse.specs.inner.Reading.{Parser, ◌>->◌, ◌>>◌, pure, keyword, number, separated, clause, expression, column, table, items, joined, join, filter, group, descending, ordered, order, limit, select}
 use Rattle.sql_parse.proofs.ExpressionLaws.{ExpressionLaws}
 use Rattle.sql_parse.proofs.ReaderParts.{Part, before, Overruns}
 use Rattle.sql_parse.proofs.ReaderLaws.{IsReader, Ended, both, chained}
@@ -137,7 +137,7 @@ unfolding ordered
 ordered_reader =
     formed (both column_parts direction_parts) (chained (λ c. c) read) ordered ordered_goes ordered_parts ordered_of
     (λ form. record { column = form.0; direction = form.1 }) (λ form. (form.column, form.direction)) (λ form. refl) (λ form. refl) (λ form. refl) (λ form. refl)
-    (open_maybe column_parts (λ c. c) column direction_parts read (λ c. descending >>= (λ d. pure (record { column = c; descending = d }))) column_goes direction_goes column_reader leads
+    (open_maybe column_parts (λ c. c) column direction_parts read (λ c. descending >-> (λ d. pure (record { column = c; descending = d }))) column_goes direction_goes column_reader leads
     (λ c. mapped direction_parts direction_value descending (λ d. record { column = c; descending = d }) direction_goes direction_reader))
   where
     read : ColRef → Option Bool → OrderRef
@@ -232,22 +232,22 @@ abbrev pub select_goes : TokenKind → Bool
 select_goes = or_goes alias_goes joins_goes
 
 abbrev limit_by : Items → TableRef → Option JoinRef → Option Ast → List ColRef → List OrderRef → Parser SelectStmt
-limit_by i t j f g o = limit >>= (λ l. pure (built i t j f g o l))
+limit_by i t j f g o = limit >-> (λ l. pure (built i t j f g o l))
 
 abbrev order_by : Items → TableRef → Option JoinRef → Option Ast → List ColRef → Parser SelectStmt
-order_by i t j f g = order >>= (λ o. limit_by i t j f g o)
+order_by i t j f g = order >-> (λ o. limit_by i t j f g o)
 
 abbrev group_by : Items → TableRef → Option JoinRef → Option Ast → Parser SelectStmt
-group_by i t j f = group >>= (λ g. order_by i t j f g)
+group_by i t j f = group >-> (λ g. order_by i t j f g)
 
 abbrev filter_by : Items → TableRef → Option JoinRef → Parser SelectStmt
-filter_by i t j = filter >>= (λ f. group_by i t j f)
+filter_by i t j = filter >-> (λ f. group_by i t j f)
 
 abbrev join_by : Items → TableRef → Parser SelectStmt
-join_by i t = join >>= (λ j. filter_by i t j)
+join_by i t = join >-> (λ j. filter_by i t j)
 
 abbrev from_by : Items → Parser SelectStmt
-from_by i = keyword KFrom >> table >>= (λ t. join_by i t)
+from_by i = keyword KFrom >> table >-> (λ t. join_by i t)
 
 module _ (laws : ExpressionLaws) where
   -- ---- joins and conditions
@@ -261,7 +261,7 @@ module _ (laws : ExpressionLaws) where
   joined_reader =
       formed (both table_parts (behind (kind.Keyword KOn) phrase_parts)) (chained (λ t. t) read) joined expression_goes joined_parts join_of
       (λ form. record { table = form.0; on = form.1 }) (λ form. (form.table, form.on)) (λ form. refl) (λ form. refl) (λ form. refl) (λ form. refl)
-      (open_then table_parts (λ t. t) table (behind (kind.Keyword KOn) phrase_parts) read (λ t. keyword KOn >> expression >>= (λ e. pure (record { table = t; on = e }))) alias_goes expression_goes
+      (open_then table_parts (λ t. t) table (behind (kind.Keyword KOn) phrase_parts) read (λ t. keyword KOn >> expression >-> (λ e. pure (record { table = t; on = e }))) alias_goes expression_goes
       table_reader (λ e. refl)
       (λ t. mapped (behind (kind.Keyword KOn) phrase_parts) value (keyword KOn >> expression) (λ e. record { table = t; on = e }) expression_goes
       (keyword_then phrase_parts value expression_goes expression (expression_reader laws) KOn)))

@@ -2,7 +2,7 @@
 use Rattle.std.proofs.Common.{◌≡◌, ℕ, List, [], ◌∷◌, ◌++◌, Bool, true, false, ◌||◌, Ok, Err, refl, sym, ap, ◌∙◌, subst}
 use Rattle.sql_lex.specs.declared.token.TokenKind.{TokenKind}
 use Rattle.sql_parse.specs.declared.stop.Stop.TheVariants.{Stuck, Deep, NoMemory}
-use Rattle.sql_parse.specs.Reading.{Outcome, Parser, and_then, ◌>>=◌, pure, begins}
+use Rattle.sql_parse.specs.inner.Reading.{Outcome, Parser, and_then, ◌>->◌, pure, begins}
 use Rattle.sql_parse.proofs.ExpressionPhrases.{IsPhrase}
 use Rattle.sql_parse.proofs.ExpressionLaws.{Fits}
 use Rattle.sql_parse.proofs.ReaderParts.{Part, Word, Phrase, before, Every, Apart, fresh_after, Overruns, every_append, every_left, every_right, apart_append}
@@ -95,7 +95,7 @@ module _ {F G A B : Type 0} (parts : F → List Part) (value : F → A) (p : Par
       ((g : G) (rest : List TokenKind) → Ended goes rest → Ended goes_first (before (others g) rest)) →
       ((g : G) (tokens : List TokenKind) (left : ℕ) → Overruns (others g) tokens left → Ended goes_first tokens) →
       ((rest : List TokenKind) → Ended goes rest → Ended goes_next rest) →
-      IsReader (both parts others) (chained value next) goes (p >>= q)
+      IsReader (both parts others) (chained value next) goes (p >-> q)
   in_sequence apart lets over ends = record {
     least = (first.least, (second (value first.least)).least);
     lawful = every_both_parts;
@@ -117,7 +117,7 @@ module _ {F G A B : Type 0} (parts : F → List Part) (value : F → A) (p : Par
 -- Nothing goes on with the first one: it ends with a word.
 pub closed_then : {F G A B : Type 0} (parts : F → List Part) (value : F → A) (p : Parser A) (others : G → List Part) (next : A → G → B) (q : A → Parser B) (goes : TokenKind → Bool) →
     IsReader parts value never p → ((f : F) → fresh_after true (parts f) ≡ true) → ((a : A) → IsReader others (next a) goes (q a)) →
-    IsReader (both parts others) (chained value next) goes (p >>= q)
+    IsReader (both parts others) (chained value next) goes (p >-> q)
 closed_then parts value p others next q goes first closed second =
     in_sequence parts value p others next q goes never goes first second
     (λ f g. subst (λ fresh. Apart fresh (others g)) (sym (closed f)) ((second (value f)).apart g))
@@ -126,7 +126,7 @@ closed_then parts value p others next q goes first closed second =
 -- the second one always begins with a word that doesn't go on with the first one
 pub open_then : {F G A B : Type 0} (parts : F → List Part) (value : F → A) (p : Parser A) (others : G → List Part) (next : A → G → B) (q : A → Parser B) (goes_first goes : TokenKind → Bool) →
     IsReader parts value goes_first p → ((g : G) → Starts goes_first (others g)) → ((a : A) → IsReader others (next a) goes (q a)) →
-    IsReader (both parts others) (chained value next) goes (p >>= q)
+    IsReader (both parts others) (chained value next) goes (p >-> q)
 open_then parts value p others next q goes_first goes first starts second =
     in_sequence parts value p others next q goes goes_first goes first second
     (λ f g. leads_apart goes_first (fresh_after true (parts f)) (others g) (starts_leads goes_first (others g) (starts g)) ((second (value f)).apart g))
@@ -137,7 +137,7 @@ open_then parts value p others next q goes_first goes first starts second =
 -- the second one may be missing, and else begins with a word that doesn't go on with the first one
 pub open_maybe : {F G A B : Type 0} (parts : F → List Part) (value : F → A) (p : Parser A) (others : G → List Part) (next : A → G → B) (q : A → Parser B) (goes_first goes_next : TokenKind → Bool) →
     IsReader parts value goes_first p → ((g : G) → Leads goes_first (others g)) → ((a : A) → IsReader others (next a) goes_next (q a)) →
-    IsReader (both parts others) (chained value next) (or_goes goes_first goes_next) (p >>= q)
+    IsReader (both parts others) (chained value next) (or_goes goes_first goes_next) (p >-> q)
 open_maybe parts value p others next q goes_first goes_next first leads second =
     in_sequence parts value p others next q (or_goes goes_first goes_next) goes_first goes_next first second
     (λ f g. leads_apart goes_first (fresh_after true (parts f)) (others g) (leads g) ((second (value f)).apart g))
@@ -149,7 +149,7 @@ open_maybe parts value p others next q goes_first goes_next first leads second =
 
 module _ {F A B : Type 0} (parts : F → List Part) (value : F → A) (p : Parser A) (f : A → B) where
   pub mapped_answer : (tokens : List TokenKind) (o : Outcome A) → Answers parts value p tokens o →
-      Answers parts (λ form. f (value form)) (p >>= (λ x. pure (f x))) tokens (and_then o (λ x. pure (f x)))
+      Answers parts (λ form. f (value form)) (p >-> (λ x. pure (f x))) tokens (and_then o (λ x. pure (f x)))
   mapped_answer tokens (Ok read) given = record {
     form = given.form;
     lawful = given.lawful;
@@ -172,7 +172,7 @@ module _ {F A B : Type 0} (parts : F → List Part) (value : F → A) (p : Parse
   mapped_answer tokens (Err (Deep left)) over = over
   mapped_answer tokens (Err NoMemory) never = absurd never
 
-  pub mapped : (goes : TokenKind → Bool) → IsReader parts value goes p → IsReader parts (λ form. f (value form)) goes (p >>= (λ x. pure (f x)))
+  pub mapped : (goes : TokenKind → Bool) → IsReader parts value goes p → IsReader parts (λ form. f (value form)) goes (p >-> (λ x. pure (f x)))
   mapped goes reader = record {
     least = reader.least;
     lawful = reader.lawful;

@@ -7,10 +7,10 @@ use Rattle.sql_lex.specs.declared.keyword.Keyword.{Keyword}
 use Rattle.sql_lex.specs.declared.keyword.Keyword.TheVariants.{KSelect, KInsert, KUpdate, KDelete, KBegin, KAs, KOf, KEpoch, KCommit, KRollback, KExplain}
 use Rattle.sql_lex.specs.declared.token.TokenKind.{TokenKind}
 use Rattle.sql_lex.specs.declared.token.TokenKind.TheVariants as kind
-use Rattle.sql_parse.specs.Kinds.{is_keyword}
+use Rattle.sql_parse.specs.inner.Kinds.{is_keyword}
 use Rattle.sql_parse.specs.Forms.{SelectForm, select_of, InsertForm, insert_of, UpdateForm, update_of, DeleteForm, delete_of, StatementForm, statement_of}
 use Rattle.sql_parse.specs.Forms.StatementForm.{Select, Insert, Update, Delete, Begin, BeginAsOf, Commit, Rollback, Explain}
-use Rattle.sql_parse.specs.Reading.{Parser, ◌>>◌, ◌<$>◌, pure, begins, keyword, number, select, insert, update, delete, begin, statement}
+use Rattle.sql_parse.specs.inner.Reading.{Parser, ◌>>◌, ◌<$>◌, pure, begins, keyword, number, select, insert, update, delete, begin, statement}
 use Rattle.sql_parse.proofs.ExpressionLaws.{ExpressionLaws}
 use Rattle.sql_parse.proofs.ReaderParts.{Part}
 use Rattle.sql_parse.proofs.ReaderLaws.{IsReader, Ended, both, chained}

@@ -8,8 +8,8 @@ use Rattle.sql_lex.specs.contracts.symbol.Symbol as symbols
 use Rattle.sql_lex.specs.declared.token.TokenKind.{TokenKind}
 use Rattle.sql_lex.specs.declared.token.TokenKind.TheVariants as kind
 use Rattle.sql_parse.specs.declared.stop.Stop.TheVariants.{Stuck}
-use Rattle.sql_parse.specs.Kinds.{is_keyword, is_symbol}
-use Rattle.sql_parse.specs.Reading.{Outcome, Parser, begins, refuse, keyword, symbol, name, number}
+use Rattle.sql_parse.specs.inner.Kinds.{is_keyword, is_symbol}
+use Rattle.sql_parse.specs.inner.Reading.{Outcome, Parser, begins, refuse, keyword, symbol, name, number}
 use Rattle.sql_parse.proofs.ReaderParts.{Word, SameFirst}
 use Rattle.sql_parse.proofs.ReaderLaws.{Answers, IsReader, IsGiven, IsHeld}
 use Rattle.sql_parse.proofs.ReaderSequence.{never}

@@ -10,10 +10,10 @@ use Rattle.sql_lex.specs.declared.keyword.Keyword.TheVariants.{KInto, KValues, K
 use Rattle.sql_lex.specs.declared.symbol.Symbol.TheVariants.{Open, Close, Equal, Comma}
 use Rattle.sql_lex.specs.declared.token.TokenKind.{TokenKind}
 use Rattle.sql_lex.specs.declared.token.TokenKind.TheVariants as kind
-use Rattle.sql_parse.specs.Kinds.{is_symbol}
+use Rattle.sql_parse.specs.inner.Kinds.{is_symbol}
 use Rattle.sql_parse.specs.Trees.{Tree, value}
 use Rattle.sql_parse.specs.Forms.{Several, listed, listed_if, RowForm, row_of, insert_of, SetForm, set_of, update_of, delete_of}
-use Rattle.sql_parse.specs.Reading.{Parser, ◌>>=◌, ◌>>◌, pure, keyword, symbol, name, separated, expression, filter, row, columns, insert, set, update, delete}
+use Rattle.sql_parse.specs.inner.Reading.{Parser, ◌>->◌, ◌>>◌, pure, keyword, symbol, name, separated, expression, filter, row, columns, insert, set, update, delete}
 use Rattle.sql_parse.proofs.ExpressionLaws.{ExpressionLaws}
 use Rattle.sql_parse.proofs.ReaderParts.{Part}
 use Rattle.sql_parse.proofs.ReaderLaws.{IsReader, both, chained}
@@ -33,9 +33,9 @@ closing a = sign_part Close ∷ []
 
 bracket_reader : {F A B : Type 0} (parts : F → List Part) (value : F → A) (goes : TokenKind → Bool) (p : Parser A) (f : List A → B) → IsReader parts value goes p →
     goes (kind.Symbol Comma) ≡ false → goes (kind.Symbol Close) ≡ false →
-    IsReader (λ forms. bracket_parts (several_parts parts forms)) (λ forms. f (several_value value forms)) never (symbol Open >> separated p >>= (λ l. symbol Close >> pure (f l)))
+    IsReader (λ forms. bracket_parts (several_parts parts forms)) (λ forms. f (several_value value forms)) never (symbol Open >> separated p >-> (λ l. symbol Close >> pure (f l)))
 bracket_reader {F} {A} {B} parts value goes p f reader apart closes =
-    formed (both (behind (kind.Symbol Open) (several_parts parts)) closing) (chained (several_value value) (λ l a. f l)) (symbol Open >> separated p >>= (λ l. symbol Close >> pure (f l))) never
+    formed (both (behind (kind.Symbol Open) (several_parts parts)) closing) (chained (several_value value) (λ l a. f l)) (symbol Open >> separated p >-> (λ l. symbol Close >> pure (f l))) never
     (λ forms. bracket_parts (several_parts parts forms)) (λ forms. f (several_value value forms)) (λ form. form.0) (λ forms. (forms, tt)) (λ form. refl) (λ form. refl) (λ forms. refl) (λ forms. refl)
     (open_then (behind (kind.Symbol Open) (several_parts parts)) (several_value value) (symbol Open >> separated p) closing (λ l a. f l) (λ l. symbol Close >> pure (f l)) (several_goes goes) never
     (symbol_then (several_parts parts) (several_value value) (several_goes goes) (separated p) (several_reader parts value goes p reader apart) Open)
@@ -56,7 +56,7 @@ columns_value = maybe_value (several_value (λ n. n)) []
 columns_reader : IsReader columns_parts columns_value columns_goes columns
 unfolding columns
 columns_reader =
-    optional (λ names. bracket_parts (several_parts name_parts names)) (several_value (λ n. n)) never (symbol Open >> separated name >>= (λ names. symbol Close >> pure names)) (is_symbol Open) []
+    optional (λ names. bracket_parts (several_parts name_parts names)) (several_value (λ n. n)) never (symbol Open >> separated name >-> (λ names. symbol Close >> pure names)) (is_symbol Open) []
     (bracket_reader name_parts (λ n. n) never name (λ names. names) name_reader refl refl) (λ names. symbol_itself Open)
 
 same_columns : (names : Option (Several (List ℕ))) → listed_if names ≡ columns_value names
@@ -83,10 +83,10 @@ module _ (laws : ExpressionLaws) where
   inserted t c r = record { table = t; columns = c; rows = r }
 
   rows_reader : (t : List ℕ) → IsReader rows_parts (chained columns_value (λ c forms. inserted t c (several_value row_of forms))) insert_goes
-      (columns >>= (λ c. keyword KValues >> separated row >>= (λ r. pure (inserted t c r))))
+      (columns >-> (λ c. keyword KValues >> separated row >-> (λ r. pure (inserted t c r))))
   rows_reader t =
       open_then columns_parts columns_value columns (behind (kind.Keyword KValues) (several_parts row_parts)) (λ c forms. inserted t c (several_value row_of forms))
-      (λ c. keyword KValues >> separated row >>= (λ r. pure (inserted t c r))) columns_goes insert_goes columns_reader (λ forms. refl)
+      (λ c. keyword KValues >> separated row >-> (λ r. pure (inserted t c r))) columns_goes insert_goes columns_reader (λ forms. refl)
       (λ c. mapped (behind (kind.Keyword KValues) (several_parts row_parts)) (several_value row_of) (keyword KValues >> separated row) (λ r. inserted t c r) insert_goes
       (keyword_then (several_parts row_parts) (several_value row_of) insert_goes (separated row) (several_reader row_parts row_of never row row_reader refl) KValues))
 
@@ -98,7 +98,7 @@ module _ (laws : ExpressionLaws) where
       (λ form. refl) (λ form. ap (λ c. inserted form.0 c (several_value row_of form.1.1)) (same_columns form.1.0))
       (λ form. refl) (λ form. ap (λ c. inserted form.table c (several_value row_of form.rows)) (sym (same_columns form.columns)))
       (closed_then (behind (kind.Keyword KInto) name_parts) (λ n. n) (keyword KInto >> name) rows_parts read
-      (λ t. columns >>= (λ c. keyword KValues >> separated row >>= (λ r. pure (inserted t c r)))) insert_goes
+      (λ t. columns >-> (λ c. keyword KValues >> separated row >-> (λ r. pure (inserted t c r)))) insert_goes
       (keyword_then name_parts (λ n. n) never name name_reader KInto) (λ n. refl) (λ t. rows_reader t))
     where
       read : List ℕ → Rows → InsertStmt
@@ -111,7 +111,7 @@ module _ (laws : ExpressionLaws) where
   set_reader =
       formed (both name_parts (behind (kind.Symbol Equal) phrase_parts)) (chained (λ n. n) read) set expression_goes set_parts set_of
       (λ form. record { column = form.0; value = form.1 }) (λ form. (form.column, form.value)) (λ form. refl) (λ form. refl) (λ form. refl) (λ form. refl)
-      (closed_then name_parts (λ n. n) name (behind (kind.Symbol Equal) phrase_parts) read (λ c. symbol Equal >> expression >>= (λ e. pure (record { column = c; value = e }))) expression_goes
+      (closed_then name_parts (λ n. n) name (behind (kind.Symbol Equal) phrase_parts) read (λ c. symbol Equal >> expression >-> (λ e. pure (record { column = c; value = e }))) expression_goes
       name_reader (λ n. refl)
       (λ c. mapped (behind (kind.Symbol Equal) phrase_parts) value (symbol Equal >> expression) (λ e. record { column = c; value = e }) expression_goes
       (symbol_then phrase_parts value expression_goes expression (expression_reader laws) Equal)))
@@ -132,10 +132,10 @@ module _ (laws : ExpressionLaws) where
   update_goes = or_goes (several_goes expression_goes) filter_goes
 
   sets_reader : (t : List ℕ) → IsReader sets_parts (chained (several_value set_of) (λ s e. updated t s (option_map value e))) update_goes
-      (keyword KSet >> separated set >>= (λ s. filter >>= (λ f. pure (updated t s f))))
+      (keyword KSet >> separated set >-> (λ s. filter >-> (λ f. pure (updated t s f))))
   sets_reader t =
       open_maybe (behind (kind.Keyword KSet) (several_parts set_parts)) (several_value set_of) (keyword KSet >> separated set) filter_parts (λ s e. updated t s (option_map value e))
-      (λ s. filter >>= (λ f. pure (updated t s f))) (several_goes expression_goes) filter_goes
+      (λ s. filter >-> (λ f. pure (updated t s f))) (several_goes expression_goes) filter_goes
       (keyword_then (several_parts set_parts) (several_value set_of) (several_goes expression_goes) (separated set) (several_reader set_parts set_of expression_goes set set_reader refl) KSet)
       (maybe_leads (several_goes expression_goes) (behind (kind.Keyword KWhere) phrase_parts) (λ e. refl))
       (λ s. mapped filter_parts (option_map value) filter (λ f. updated t s f) filter_goes (filter_reader laws))
@@ -146,7 +146,7 @@ module _ (laws : ExpressionLaws) where
       formed (both name_parts sets_parts) (chained (λ n. n) read) update update_goes update_parts update_of
       (λ form. record { table = form.0; sets = form.1.0; filter = form.1.1 }) (λ form. (form.table, (form.sets, form.filter)))
       (λ form. refl) (λ form. refl) (λ form. refl) (λ form. refl)
-      (closed_then name_parts (λ n. n) name sets_parts read (λ t. keyword KSet >> separated set >>= (λ s. filter >>= (λ f. pure (updated t s f)))) update_goes
+      (closed_then name_parts (λ n. n) name sets_parts read (λ t. keyword KSet >> separated set >-> (λ s. filter >-> (λ f. pure (updated t s f)))) update_goes
       name_reader (λ n. refl) (λ t. sets_reader t))
     where
       read : List ℕ → Sets → UpdateStmt
@@ -157,7 +157,7 @@ module _ (laws : ExpressionLaws) where
   delete_reader =
       formed (both (behind (kind.Keyword KFrom) name_parts) filter_parts) (chained (λ n. n) read) delete filter_goes delete_parts delete_of
       (λ form. record { table = form.0; filter = form.1 }) (λ form. (form.table, form.filter)) (λ form. refl) (λ form. refl) (λ form. refl) (λ form. refl)
-      (closed_then (behind (kind.Keyword KFrom) name_parts) (λ n. n) (keyword KFrom >> name) filter_parts read (λ t. filter >>= (λ f. pure (record { table = t; filter = f }))) filter_goes
+      (closed_then (behind (kind.Keyword KFrom) name_parts) (λ n. n) (keyword KFrom >> name) filter_parts read (λ t. filter >-> (λ f. pure (record { table = t; filter = f }))) filter_goes
       (keyword_then name_parts (λ n. n) never name name_reader KFrom) (λ n. refl)
       (λ t. mapped filter_parts (option_map value) filter (λ f. record { table = t; filter = f }) filter_goes (filter_reader laws)))
     where

@@ -6,7 +6,7 @@ use Rattle.sql_parse.specs.declared.stop.Stop.{Stop}
 use Rattle.sql_parse.specs.declared.stop.Stop.TheVariants.{Stuck, Deep, NoMemory}
 use Rattle.sql_parse.specs.Forms.{statement_of}
 use Rattle.sql_parse.specs.Grammar.{IsSpelled, BeginsStatement, Stops, IsStuck, IsDeep, IsShallow, IsFirstDeep}
-use Rattle.sql_parse.specs.Reading.{Outcome, statement, to_end, whole}
+use Rattle.sql_parse.specs.inner.Reading.{Outcome, statement, to_end, whole}
 use Rattle.sql_parse.proofs.ExpressionLaws.{ExpressionLaws}
 use Rattle.sql_parse.proofs.ReaderParts.{before, before_onto, SameFirst}
 use Rattle.sql_parse.proofs.ReaderLaws.{IsGiven, IsHeld}

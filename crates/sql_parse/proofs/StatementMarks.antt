@@ -7,7 +7,7 @@ use Rattle.sql_lex.specs.declared.keyword.Keyword.TheVariants.{KSelect, KInto, K
 use Rattle.sql_lex.specs.declared.symbol.Symbol.TheVariants.{Comma, Open, Close, Equal}
 use Rattle.sql_lex.specs.declared.token.TokenKind.TheVariants as kind
 use Rattle.sql_parse.specs.Trees.{Outside, Mark, mark, marks, kinds}
-use Rattle.sql_parse.specs.Forms.{word, sign, name_marks, number_marks, column_marks, maybe, commas, alias_marks, table_marks, value_marks, item_marks, items_marks, join_marks, filter_marks, direction_marks, ordered_marks, query_marks, row_marks, InsertForm, insert_marks, set_marks, UpdateForm, update_marks, DeleteForm, delete_marks, statement_marks}
+use Rattle.sql_parse.specs.Forms.{word, sign, name_marks, number_marks, column_marks, maybe, several_marks, alias_marks, table_marks, value_marks, item_marks, items_marks, join_marks, filter_marks, direction_marks, ordered_marks, query_marks, row_marks, InsertForm, insert_marks, set_marks, UpdateForm, update_marks, DeleteForm, delete_marks, statement_marks}
 use Rattle.sql_parse.specs.Forms.ValueForm.{Plain, CountAll, Count, Sum, Min, Max}
 use Rattle.sql_parse.specs.Forms.ItemsForm.{Star, Listed}
 use Rattle.sql_parse.specs.Forms.StatementForm.{Select, Insert, Update, Delete, Begin, BeginAsOf, Commit, Rollback, Explain}
@@ -48,7 +48,7 @@ list_shows parts written shows [] = refl
 list_shows parts written shows (form ∷ forms) =
     ap (λ l. mark Outside (kind.Symbol Comma) ∷ l) (behind_append (parts form) (list_parts parts forms) (written form) _ (shows form) (list_shows parts written shows forms))
 
-several_shows : {F : Type 0} (parts : F → List Part) (written : F → List Mark) → Shows parts written → Shows (several_parts parts) (commas written)
+several_shows : {F : Type 0} (parts : F → List Part) (written : F → List Mark) → Shows parts written → Shows (several_parts parts) (several_marks written)
 several_shows parts written shows forms = behind_append (parts forms.first) (list_parts parts forms.others) _ _ (shows forms.first) (list_shows parts written shows forms.others)
 
 -- ---- queries
@@ -95,7 +95,7 @@ join_shows join =
 filter_shows : Shows filter_parts filter_marks
 filter_shows = maybe_shows (behind (kind.Keyword KWhere) phrase_parts) (λ e. word KWhere ++ marks e) (λ e. ap (λ l. mark Outside (kind.Keyword KWhere) ∷ l) (phrase_shows e))
 
-by_shows : {F : Type 0} (k : Keyword) (parts : F → List Part) (written : F → List Mark) → Shows parts written → Shows (by_parts k parts) (λ forms. word k ++ word KBy ++ commas written forms)
+by_shows : {F : Type 0} (k : Keyword) (parts : F → List Part) (written : F → List Mark) → Shows parts written → Shows (by_parts k parts) (λ forms. word k ++ word KBy ++ several_marks written forms)
 by_shows k parts written shows forms = ap (λ l. mark Outside (kind.Keyword k) ∷ mark Outside (kind.Keyword KBy) ∷ l) (several_shows parts written shows forms)
 
 direction_shows : Shows direction_parts (maybe direction_marks)
@@ -141,10 +141,10 @@ query_shows select =
     from_on = from ++ (join_parts select.right ++ filter_on)
 
     group_written : List Mark
-    group_written = maybe (λ columns. word KGroup ++ word KBy ++ commas column_marks columns) select.group
+    group_written = maybe (λ columns. word KGroup ++ word KBy ++ several_marks column_marks columns) select.group
 
     order_written : List Mark
-    order_written = maybe (λ columns. word KOrder ++ word KBy ++ commas ordered_marks columns) select.order
+    order_written = maybe (λ columns. word KOrder ++ word KBy ++ several_marks ordered_marks columns) select.order
 
 -- ---- statements that write
 
@@ -152,20 +152,20 @@ bracket_shows : (parts : List Part) (written : List Mark) → parts_marks parts 
 bracket_shows parts written shows = ap (λ l. mark Outside (kind.Symbol Open) ∷ l) (behind_append parts (sign_part Close ∷ []) written (sign Close) shows refl)
 
 row_shows : Shows row_parts row_marks
-row_shows row = bracket_shows (several_parts phrase_parts row) (commas marks row) (several_shows phrase_parts marks phrase_shows row)
+row_shows row = bracket_shows (several_parts phrase_parts row) (several_marks marks row) (several_shows phrase_parts marks phrase_shows row)
 
-columns_shows : Shows columns_parts (maybe (λ names. sign Open ++ commas name_marks names ++ sign Close))
-columns_shows = maybe_shows (λ names. bracket_parts (several_parts name_parts names)) _ (λ names. bracket_shows (several_parts name_parts names) (commas name_marks names) (several_shows name_parts name_marks name_shows names))
+columns_shows : Shows columns_parts (maybe (λ names. sign Open ++ several_marks name_marks names ++ sign Close))
+columns_shows = maybe_shows (λ names. bracket_parts (several_parts name_parts names)) _ (λ names. bracket_shows (several_parts name_parts names) (several_marks name_marks names) (several_shows name_parts name_marks name_shows names))
 
 insert_shows : (insert : InsertForm) → parts_marks (word_part KInsert ∷ insert_parts insert) ≡ insert_marks insert
 insert_shows insert =
     ap (λ l. mark Outside (kind.Keyword KInsert) ∷ mark Outside (kind.Keyword KInto) ∷ mark Outside (kind.Name insert.table) ∷ l)
-    (behind_append (columns_parts insert.columns) (word_part KValues ∷ several_parts row_parts insert.rows) columns_written (word KValues ++ commas row_marks insert.rows)
+    (behind_append (columns_parts insert.columns) (word_part KValues ∷ several_parts row_parts insert.rows) columns_written (word KValues ++ several_marks row_marks insert.rows)
     (columns_shows insert.columns) (ap (λ l. mark Outside (kind.Keyword KValues) ∷ l) (several_shows row_parts row_marks row_shows insert.rows))
-    ∙ sym (append_assoc columns_written (word KValues) (commas row_marks insert.rows)))
+    ∙ sym (append_assoc columns_written (word KValues) (several_marks row_marks insert.rows)))
   where
     columns_written : List Mark
-    columns_written = maybe (λ names. sign Open ++ commas name_marks names ++ sign Close) insert.columns
+    columns_written = maybe (λ names. sign Open ++ several_marks name_marks names ++ sign Close) insert.columns
 
 set_shows : Shows set_parts set_marks
 set_shows set = ap (λ l. mark Outside (kind.Name set.column) ∷ mark Outside (kind.Symbol Equal) ∷ l) (phrase_shows set.value)

@@ -8,7 +8,7 @@ use Rattle.sql_parse.specs.Trees.{Tree, kinds}
 use Rattle.sql_parse.specs.Forms.{StatementForm, statement_marks, statement_of, Each, IsForm}
 use Rattle.sql_parse.specs.Lines.{Expr, Stands}
 use Rattle.sql_parse.specs.Grammar.{IsSpelled, IsDeep}
-use Rattle.sql_parse.specs.Reading.{Outcome, begins, statement, ended, to_end, whole}
+use Rattle.sql_parse.specs.inner.Reading.{Outcome, begins, statement, ended, to_end, whole}
 use Rattle.sql_parse.proofs.ExpressionPhrases.{IsPhrase, stands_phrase, phrase_stands}
 use Rattle.sql_parse.proofs.ExpressionLaws.{ExpressionLaws, Fits}
 use Rattle.sql_parse.proofs.ReaderParts.{before, parts_marks, Every, every_weaker, every_both, Overruns}

@@ -3,12 +3,13 @@ use Rattle.std.proofs.Common.{◌≡◌, ◌↔◌, ℕ, List, Result, Ok, Err, 
 use Rattle.sql_ast.specs.declared.statement.Statement.{Statement}
 use Rattle.sql_lex.specs.declared.token.LexFault.TheVariants as lex
 use Rattle.sql_lex.specs.declared.token.Token.{Token}
-use Rattle.sql_lex.specs.Tokens.{Tokens, tokens_of}
+use Rattle.sql_lex.specs.inner.Tokens.{Tokens, tokens_of}
 use Rattle.sql_parse.specs.declared.fault.ParseFault.TheVariants as fault
 use Rattle.sql_parse.specs.declared.stop.Stop.{Stop}
 use Rattle.sql_parse.specs.declared.stop.Stop.TheVariants as stop
-use Rattle.sql_parse.specs.Parsing.{kinds_of, place_of, placed, of_tokens, parsed}
-use Rattle.sql_parse.specs.Reading.{whole}
+use Rattle.sql_parse.specs.inner.Parsing.{placed, of_tokens, parsed}
+use Rattle.sql_parse.specs.Places.{kinds_of, place_of}
+use Rattle.sql_parse.specs.inner.Reading.{whole}
 
 -- ---- statements
 

@@ -1,17 +1,18 @@
 -- A text is parsed as a statement where its tokens spell it, and refused where it has the fault.
-use Rattle.std.proofs.Common.{◌≡◌, ◌⊎◌, ◌↔◌, ℕ, List, Result, Ok, Err, IfOk, IfErr, MatchResult, length, refl, sym, subst, inl, inr}
+use Rattle.std.proofs.Common.{◌≡◌, ◌⊎◌, ◌↔◌, ℕ, List, Result, Ok, Err, IfOk, IfErr, MatchResult, length, refl, inl, inr}
+use Rattle.geo_base.specs.Results.{Gives}
 use Rattle.sql_ast.specs.declared.statement.Statement.{Statement}
 use Rattle.sql_lex.specs.declared.token.LexFault.TheVariants as lex
 use Rattle.sql_lex.specs.declared.token.Token.{Token}
-use Rattle.sql_lex.specs.Tokens.{Tokens, tokens_of}
-use Rattle.sql_lex.specs.Grammar.{StopsAt}
-use Rattle.sql_lex.proofs.Cuts.{tokens_are_cut, cut_is_tokens, fault_stops, stop_is_fault}
+use Rattle.sql_lex.specs.inner.Tokens.{Tokens, tokens_of}
+use Rattle.sql_lex.specs.laws.Cuts.{tokens_are_cut, cut_is_tokens, fault_stops, stops_there, stop_is_fault}
 use Rattle.sql_parse.specs.declared.fault.ParseFault.{ParseFault}
 use Rattle.sql_parse.specs.declared.fault.ParseFault.TheVariants as fault
 use Rattle.sql_parse.specs.declared.stop.Stop.{Stop}
 use Rattle.sql_parse.specs.declared.stop.Stop.TheVariants as stop
-use Rattle.sql_parse.specs.Parsing.{kinds_of, placed, of_tokens, parsed}
-use Rattle.sql_parse.specs.Reading.{statement, whole}
+use Rattle.sql_parse.specs.inner.Parsing.{placed, of_tokens, parsed}
+use Rattle.sql_parse.specs.Places.{kinds_of}
+use Rattle.sql_parse.specs.inner.Reading.{statement, whole}
 use Rattle.sql_parse.specs.Refusals.{IsTextOf, IsRefused}
 use Rattle.sql_parse.proofs.ExpressionSound.{expression_laws}
 use Rattle.sql_parse.proofs.StatementLaws.{statements_spelled, statements_stop, statements_deepen}
@@ -59,12 +60,6 @@ parsed_never text same = read_never (length text) (tokens_of text) (tokens_never
 
 -- ---- faults
 
-stops_there : (text : List ℕ) (at : ℕ) → tokens_of text ≡ Err (lex.BadText at) → StopsAt text at
-stops_there text at e =
-    let stops = fault_stops text (lex.BadText at) e in
-    let same : at ≡ stops.0 = cc in
-    subst (StopsAt text) (sym same) stops.2
-
 pub texts_refused : (text : List ℕ) (f : ParseFault) → (parsed text ≡ Err f) ↔ IsRefused text f
 texts_refused text (fault.BadText at) = (
   λ same. stops_there text at ((texts_of_no_tokens text at).0 same),
@@ -87,17 +82,38 @@ texts_refused text (fault.TooDeep at) = (
 )
 texts_refused text fault.NoMemory = (λ same. parsed_never text same, λ never. absurd never)
 
+-- ---- a text has one answer
+
+pub some_answer : (text : List ℕ) → ((s : Statement) × IsTextOf text s) ⊎ ((f : ParseFault) × IsRefused text f)
+some_answer text = by (parsed text) refl
+  where
+    by : (r : Result Statement ParseFault) → parsed text ≡ r → ((s : Statement) × IsTextOf text s) ⊎ ((f : ParseFault) × IsRefused text f)
+    by (Ok s) same = inl (s, (texts_spelled text s).0 same)
+    by (Err f) same = inr (f, (texts_refused text f).0 same)
+
+both_read : (r : Result Statement ParseFault) (s other : Statement) → r ≡ Ok s → r ≡ Ok other → s ≡ other
+both_read r s other e f = cc
+
+both_refused : (r : Result Statement ParseFault) (f other : ParseFault) → r ≡ Err f → r ≡ Err other → f ≡ other
+both_refused r f other e g = cc
+
+read_and_refused : (r : Result Statement ParseFault) (s : Statement) (f : ParseFault) → r ≡ Ok s → r ≡ Err f → ⊥
+read_and_refused r s f e g = cc
+
+pub one_statement : (text : List ℕ) (s other : Statement) → IsTextOf text s → IsTextOf text other → s ≡ other
+one_statement text s other is also = both_read (parsed text) s other ((texts_spelled text s).1 is) ((texts_spelled text other).1 also)
+
+pub one_fault : (text : List ℕ) (f other : ParseFault) → IsRefused text f → IsRefused text other → f ≡ other
+one_fault text f other is also = both_refused (parsed text) f other ((texts_refused text f).1 is) ((texts_refused text other).1 also)
+
+pub not_both : (text : List ℕ) (s : Statement) (f : ParseFault) → IsTextOf text s → IsRefused text f → ⊥
+not_both text s f is refused = read_and_refused (parsed text) s f ((texts_spelled text s).1 is) ((texts_refused text f).1 refused)
+
 -- ---- what an answer says of the text, where there may be no memory
 
 -- the text's statement or fault, or want of memory
 abbrev pub IsAnswer : List ℕ → Result Statement ParseFault → Type 0
-IsAnswer text answer = MatchResult answer (λ s. parsed text ≡ Ok s) (λ f. (f ≡ fault.NoMemory) ⊎ (parsed text ≡ Err f))
-
-both_read : (r : Result Statement ParseFault) (found s : Statement) → r ≡ Ok found → r ≡ Ok s → found ≡ s
-both_read r found s e f = cc
-
-read_and_refused : (r : Result Statement ParseFault) (f : ParseFault) (s : Statement) → r ≡ Err f → r ≡ Ok s → ⊥
-read_and_refused r f s e same = cc
+IsAnswer text answer = Gives fault.NoMemory (λ s. s) answer (parsed text)
 
 -- the statement is the text's
 pub answer_spelled : (text : List ℕ) (answer : Result Statement ParseFault) → IsAnswer text answer → IfOk answer (λ s. IsTextOf text s)
@@ -109,10 +125,17 @@ pub answer_only : (text : List ℕ) (answer : Result Statement ParseFault) → I
     MatchResult answer (λ found. found ≡ s) (λ f. f ≡ fault.NoMemory)
 answer_only text (Ok found) same s is = both_read (parsed text) found s same ((texts_spelled text s).1 is)
 answer_only text (Err f) (inl memory) s is = memory
-answer_only text (Err f) (inr refused) s is = absurd (read_and_refused (parsed text) f s refused ((texts_spelled text s).1 is))
+answer_only text (Err f) (inr refused) s is = absurd (read_and_refused (parsed text) s f ((texts_spelled text s).1 is) refused)
 
 -- the fault is the text's
 pub answer_refused : (text : List ℕ) (answer : Result Statement ParseFault) → IsAnswer text answer → IfErr answer (λ f. (f ≡ fault.NoMemory) ⊎ IsRefused text f)
 answer_refused text (Ok s) same = tt
 answer_refused text (Err f) (inl memory) = inl memory
 answer_refused text (Err f) (inr refused) = inr ((texts_refused text f).0 refused)
+
+-- a text that has a fault is read as no statement, and is refused with no other fault, want of memory apart
+pub answer_only_there : (text : List ℕ) (answer : Result Statement ParseFault) → IsAnswer text answer → (f : ParseFault) → IsRefused text f →
+    MatchResult answer (λ _. ⊥) (λ found. (found ≡ fault.NoMemory) ⊎ (found ≡ f))
+answer_only_there text (Ok s) same f is = read_and_refused (parsed text) s f same ((texts_refused text f).1 is)
+answer_only_there text (Err found) (inl memory) f is = inl memory
+answer_only_there text (Err found) (inr refused) f is = inr (both_refused (parsed text) found f refused ((texts_refused text f).1 is))

@@ -58,8 +58,8 @@ pub record Several (T : Type 0) : Type 0 where
 abbrev pub listed : {T : Type 0} → Several T → List T
 listed several = several.first ∷ several.others
 
-abbrev pub commas : {T : Type 0} → (T → List Mark) → Several T → List Mark
-commas written several = written several.first ++ flat_map (λ other. sign Comma ++ written other) several.others
+abbrev pub several_marks : {T : Type 0} → (T → List Mark) → Several T → List Mark
+several_marks written several = written several.first ++ flat_map (λ other. sign Comma ++ written other) several.others
 
 -- ---- queries
 
@@ -124,7 +124,7 @@ pub data ItemsForm : Type 0 where
 
 abbrev pub items_marks : ItemsForm → List Mark
 items_marks Star = sign star.Star
-items_marks (Listed items) = commas item_marks items
+items_marks (Listed items) = several_marks item_marks items
 
 abbrev pub items_of : ItemsForm → Items
 items_of Star = of_items.All
@@ -188,8 +188,8 @@ pub record SelectForm : Type 0 where
 abbrev pub query_marks : SelectForm → List Mark
 query_marks select =
     items_marks select.items ++ word KFrom ++ table_marks select.left ++ maybe join_marks select.right ++ filter_marks select.filter
-    ++ maybe (λ columns. word KGroup ++ word KBy ++ commas column_marks columns) select.group
-    ++ maybe (λ columns. word KOrder ++ word KBy ++ commas ordered_marks columns) select.order
+    ++ maybe (λ columns. word KGroup ++ word KBy ++ several_marks column_marks columns) select.group
+    ++ maybe (λ columns. word KOrder ++ word KBy ++ several_marks ordered_marks columns) select.order
     ++ maybe (λ n. word KLimit ++ number_marks n) select.limit
 
 abbrev pub select_of : SelectForm → SelectStmt
@@ -216,7 +216,7 @@ abbrev pub RowForm : Type 0
 RowForm = Several Tree
 
 abbrev pub row_marks : RowForm → List Mark
-row_marks row = sign Open ++ commas marks row ++ sign Close
+row_marks row = sign Open ++ several_marks marks row ++ sign Close
 
 abbrev pub row_of : RowForm → AstRow
 row_of row = record { values = map value (listed row) }
@@ -231,8 +231,8 @@ pub record InsertForm : Type 0 where
 
 abbrev pub insert_marks : InsertForm → List Mark
 insert_marks insert =
-    word KInsert ++ word KInto ++ name_marks insert.table ++ maybe (λ names. sign Open ++ commas name_marks names ++ sign Close) insert.columns
-    ++ word KValues ++ commas row_marks insert.rows
+    word KInsert ++ word KInto ++ name_marks insert.table ++ maybe (λ names. sign Open ++ several_marks name_marks names ++ sign Close) insert.columns
+    ++ word KValues ++ several_marks row_marks insert.rows
 
 abbrev pub insert_of : InsertForm → InsertStmt
 insert_of insert = record { table = insert.table; columns = listed_if insert.columns; rows = map row_of (listed insert.rows) }
@@ -256,7 +256,7 @@ pub record UpdateForm : Type 0 where
   pub filter : Option Tree
 
 abbrev pub update_marks : UpdateForm → List Mark
-update_marks update = word KUpdate ++ name_marks update.table ++ word KSet ++ commas set_marks update.sets ++ filter_marks update.filter
+update_marks update = word KUpdate ++ name_marks update.table ++ word KSet ++ several_marks set_marks update.sets ++ filter_marks update.filter
 
 abbrev pub update_of : UpdateForm → UpdateStmt
 update_of update = record { table = update.table; sets = map set_of (listed update.sets); filter = option_map value update.filter }

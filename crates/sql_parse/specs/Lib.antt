@@ -1,10 +1,8 @@
 pub mod Kinds
-pub mod Levels
 pub mod Trees
 pub mod Lines
 pub mod Forms
 pub mod Grammar
-pub mod Expressions
-pub mod Reading
-pub mod Parsing
+pub mod Places
 pub mod Refusals
+pub mod inner

@@ -6,7 +6,7 @@ use Rattle.sql_lex.specs.Grammar.{AreTokensOf, StopsAt}
 use Rattle.sql_parse.specs.declared.fault.ParseFault.{ParseFault}
 use Rattle.sql_parse.specs.declared.fault.ParseFault.TheVariants.{BadText, BadSyntax, TooDeep, NoMemory}
 use Rattle.sql_parse.specs.Grammar.{IsSpelled, IsStuck, IsShallow, IsFirstDeep}
-use Rattle.sql_parse.specs.Parsing.{kinds_of, place_of}
+use Rattle.sql_parse.specs.Places.{kinds_of, place_of}
 
 -- the text's tokens spell the statement, and none of its expressions is too deep
 pub record IsTextOf (text : List ℕ) (statement : Statement) : Type 0 where

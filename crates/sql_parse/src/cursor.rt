@@ -3,10 +3,10 @@
 ghost use Rattle.std.specs.Prelude.{◌≡◌, ◌∷◌, [], List, length, drop, true, false, Ok, IsTrue, MatchOption};
 ghost use Rattle.sql_lex.specs.declared.token.TokenKind.{TokenKind};
 ghost use Rattle.sql_parse.specs.Grammar.{begins_integer};
-ghost use Rattle.sql_parse.specs.Kinds.{is_keyword, is_symbol};
-ghost use Rattle.sql_parse.specs.Parsing.{kinds_of};
-ghost use Rattle.sql_parse.specs.Reading as spec;
-ghost use Rattle.sql_parse.specs.Reading.{Reads};
+ghost use Rattle.sql_parse.specs.inner.Kinds.{is_keyword, is_symbol};
+ghost use Rattle.sql_parse.specs.Places.{kinds_of};
+ghost use Rattle.sql_parse.specs.inner.Reading as spec;
+ghost use Rattle.sql_parse.specs.inner.Reading.{Reads};
 
 use crate::kinds::{integer_of, is_keyword, is_symbol};
 use crate::stop::Stop;
@@ -15,14 +15,14 @@ use std::marker::Model;
 
 /// The tokens that are left. Contracts see the list of what they mean.
 #[derive(Drop)]
-pub struct Cursor<'a> {
+pub(crate) struct Cursor<'a> {
     rest: &'a [Token],
 }
 
 impl<'a> Model for Cursor<'a> {
     ghost use Rattle.std.specs.Prelude.{List};
     ghost use Rattle.sql_lex.specs.declared.token.TokenKind.{TokenKind};
-    ghost use Rattle.sql_parse.specs.Parsing.{kinds_of};
+    ghost use Rattle.sql_parse.specs.Places.{kinds_of};
 
     ghost Value = { List TokenKind };
 
@@ -30,21 +30,21 @@ impl<'a> Model for Cursor<'a> {
 }
 
 impl<'a> Cursor<'a> {
-    pub fn new(tokens: &'a [Token]) -> Cursor<'a>
+    pub(crate) fn new(tokens: &'a [Token]) -> Cursor<'a>
         ensures { result ≡ kinds_of tokens.now }
     {
         Cursor { rest: tokens }
     }
 
     /// How many tokens are left.
-    pub fn left(&self) -> usize
+    pub(crate) fn left(&self) -> usize
         ensures { result ≡ length self.now }
     {
         self.rest.len()
     }
 
     /// The next token.
-    pub fn peek(&self) -> Option<&'a TokenKind>
+    pub(crate) fn peek(&self) -> Option<&'a TokenKind>
         ensures { MatchOption result (self.now ≡ []) (λ token. (more : List TokenKind) × (self.now ≡ token.now ∷ more)) }
     {
         match self.rest {
@@ -54,7 +54,7 @@ impl<'a> Cursor<'a> {
     }
 
     /// Goes to the token behind the next one, if there is one.
-    pub fn skip(&mut self)
+    pub(crate) fn skip(&mut self)
         ensures { self.new ≡ drop 1 self.old }
     {
         if let [_, more @ ..] = self.rest {
@@ -63,7 +63,7 @@ impl<'a> Cursor<'a> {
     }
 
     /// The next token, and whether an integer follows it.
-    pub fn ahead(&self) -> Option<(&'a TokenKind, bool)>
+    pub(crate) fn ahead(&self) -> Option<(&'a TokenKind, bool)>
         ensures { MatchOption result (self.now ≡ []) (λ next. (more : List TokenKind) ×
             (self.now ≡ next.0.now ∷ more) × (next.1 ≡ begins_integer more)) }
     {
@@ -75,8 +75,8 @@ impl<'a> Cursor<'a> {
     }
 
     /// Whether the next token is the keyword.
-    #[tactic(auto, unfolding(crate::specs::Reading::begins))]
-    pub fn sees_keyword(&self, keyword: Keyword) -> bool
+    #[tactic(auto, unfolding(crate::specs::inner::Reading::begins))]
+    pub(crate) fn sees_keyword(&self, keyword: Keyword) -> bool
         ensures { result ≡ spec.begins (is_keyword keyword) self.now }
     {
         match self.rest {
@@ -86,8 +86,8 @@ impl<'a> Cursor<'a> {
     }
 
     /// Whether the next token is the symbol.
-    #[tactic(auto, unfolding(crate::specs::Reading::begins))]
-    pub fn sees_symbol(&self, symbol: Symbol) -> bool
+    #[tactic(auto, unfolding(crate::specs::inner::Reading::begins))]
+    pub(crate) fn sees_symbol(&self, symbol: Symbol) -> bool
         ensures { result ≡ spec.begins (is_symbol symbol) self.now }
     {
         match self.rest {
@@ -97,15 +97,15 @@ impl<'a> Cursor<'a> {
     }
 
     /// That no statement goes on with the next token.
-    pub fn refuse(&self) -> Stop
+    pub(crate) fn refuse(&self) -> Stop
         ensures { result ≡ Stop.Stuck (length self.now) }
     {
         Stop::Stuck(self.left())
     }
 
     /// Reads the keyword.
-    #[tactic(auto, unfolding(crate::specs::Reading::keyword))]
-    pub fn expect_keyword(&mut self, keyword: Keyword) -> Result<(), Stop>
+    #[tactic(auto, unfolding(crate::specs::inner::Reading::keyword))]
+    pub(crate) fn expect_keyword(&mut self, keyword: Keyword) -> Result<(), Stop>
         ensures { Reads (spec.keyword keyword self.old) result self.new }
     {
         if !self.sees_keyword(keyword) {
@@ -116,8 +116,8 @@ impl<'a> Cursor<'a> {
     }
 
     /// Reads the symbol.
-    #[tactic(auto, unfolding(crate::specs::Reading::symbol))]
-    pub fn expect_symbol(&mut self, symbol: Symbol) -> Result<(), Stop>
+    #[tactic(auto, unfolding(crate::specs::inner::Reading::symbol))]
+    pub(crate) fn expect_symbol(&mut self, symbol: Symbol) -> Result<(), Stop>
         ensures { Reads (spec.symbol symbol self.old) result self.new }
     {
         if !self.sees_symbol(symbol) {
@@ -128,8 +128,8 @@ impl<'a> Cursor<'a> {
     }
 
     /// Reads the keyword if it comes next, and answers whether it did.
-    #[tactic(auto, unfolding(crate::specs::Reading::keyword))]
-    pub fn eat_keyword(&mut self, keyword: Keyword) -> bool
+    #[tactic(auto, unfolding(crate::specs::inner::Reading::keyword))]
+    pub(crate) fn eat_keyword(&mut self, keyword: Keyword) -> bool
         ensures seen { result ≡ spec.begins (is_keyword keyword) self.old }
         ensures eaten { IsTrue result → spec.keyword keyword self.old ≡ Ok (tt, self.new) }
         ensures kept { result ≡ false → self.new ≡ self.old }
@@ -142,8 +142,8 @@ impl<'a> Cursor<'a> {
     }
 
     /// Reads the symbol if it comes next, and answers whether it did.
-    #[tactic(auto, unfolding(crate::specs::Reading::symbol))]
-    pub fn eat_symbol(&mut self, symbol: Symbol) -> bool
+    #[tactic(auto, unfolding(crate::specs::inner::Reading::symbol))]
+    pub(crate) fn eat_symbol(&mut self, symbol: Symbol) -> bool
         ensures seen { result ≡ spec.begins (is_symbol symbol) self.old }
         ensures eaten { IsTrue result → spec.symbol symbol self.old ≡ Ok (tt, self.new) }
         ensures kept { result ≡ false → self.new ≡ self.old }

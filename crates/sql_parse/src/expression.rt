@@ -1,8 +1,8 @@
 //! Expressions, read one token at a time.
 
-ghost use Rattle.sql_parse.specs.Expressions.{run};
-ghost use Rattle.sql_parse.specs.Reading as spec;
-ghost use Rattle.sql_parse.specs.Reading.{Reads};
+ghost use Rattle.sql_parse.specs.inner.Expressions.{run};
+ghost use Rattle.sql_parse.specs.inner.Reading as spec;
+ghost use Rattle.sql_parse.specs.inner.Reading.{Reads};
 
 mod behind;
 mod frame;
@@ -38,8 +38,8 @@ fn read_on(alloc: Global, reader: &mut Reader, cursor: &mut Cursor<'_>) -> Resul
 }
 
 /// Reads the longest expression.
-#[tactic(auto, unfolding(crate::specs::Reading::expression))]
-pub fn read_expression(alloc: Global, cursor: &mut Cursor<'_>) -> Result<Ast, Stop>
+#[tactic(auto, unfolding(crate::specs::inner::Reading::expression))]
+pub(crate) fn read_expression(alloc: Global, cursor: &mut Cursor<'_>) -> Result<Ast, Stop>
     ensures { Reads (spec.expression cursor.old) result cursor.new }
 {
     let mut reader = Reader::new(alloc);

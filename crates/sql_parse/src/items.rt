@@ -1,7 +1,7 @@
 //! What a query answers.
 
-ghost use Rattle.sql_parse.specs.Reading as spec;
-ghost use Rattle.sql_parse.specs.Reading.{Reads};
+ghost use Rattle.sql_parse.specs.inner.Reading as spec;
+ghost use Rattle.sql_parse.specs.inner.Reading.{Reads};
 
 use crate::cursor::Cursor;
 use crate::expression::read_expression;
@@ -13,7 +13,7 @@ use sql_lex::{Keyword, Symbol};
 use std::alloc::Global;
 
 // The argument of an aggregate.
-#[tactic(auto, unfolding(crate::specs::Reading::argument))]
+#[tactic(auto, unfolding(crate::specs::inner::Reading::argument))]
 fn read_argument(alloc: Global, cursor: &mut Cursor<'_>) -> Result<Ast, Stop>
     ensures { Reads (spec.argument cursor.old) result cursor.new }
 {
@@ -35,7 +35,7 @@ fn read_counted(alloc: Global, cursor: &mut Cursor<'_>) -> Result<AstValue, Stop
 }
 
 // What stands behind COUNT.
-#[tactic(auto, unfolding(crate::specs::Reading::count))]
+#[tactic(auto, unfolding(crate::specs::inner::Reading::count))]
 fn read_count(alloc: Global, cursor: &mut Cursor<'_>) -> Result<AstValue, Stop>
     ensures { Reads (spec.count cursor.old) result cursor.new }
 {
@@ -43,7 +43,7 @@ fn read_count(alloc: Global, cursor: &mut Cursor<'_>) -> Result<AstValue, Stop>
     read_counted(alloc, cursor)
 }
 
-#[tactic(auto, unfolding(crate::specs::Reading::item_value, crate::specs::Reading::keyword))]
+#[tactic(auto, unfolding(crate::specs::inner::Reading::item_value, crate::specs::inner::Reading::keyword))]
 fn read_item_value(alloc: Global, cursor: &mut Cursor<'_>) -> Result<AstValue, Stop>
     ensures { Reads (spec.item_value cursor.old) result cursor.new }
 {
@@ -66,7 +66,7 @@ fn read_item_value(alloc: Global, cursor: &mut Cursor<'_>) -> Result<AstValue, S
     Ok(AstValue::Plain(read_expression(alloc, cursor)?))
 }
 
-#[tactic(auto, unfolding(crate::specs::Reading::item))]
+#[tactic(auto, unfolding(crate::specs::inner::Reading::item))]
 fn read_item(alloc: Global, cursor: &mut Cursor<'_>) -> Result<AstItem, Stop>
     ensures { Reads (spec.item cursor.old) result cursor.new }
 {
@@ -84,8 +84,8 @@ impl Part for AstItem {
 }
 
 /// Reads what a query answers.
-#[tactic(auto, unfolding(crate::specs::Reading::items))]
-pub fn read_items(alloc: Global, cursor: &mut Cursor<'_>) -> Result<Items, Stop>
+#[tactic(auto, unfolding(crate::specs::inner::Reading::items))]
+pub(crate) fn read_items(alloc: Global, cursor: &mut Cursor<'_>) -> Result<Items, Stop>
     ensures { Reads (spec.items cursor.old) result cursor.new }
 {
     if cursor.eat_symbol(Symbol::Star) {

@@ -1,13 +1,14 @@
 //! What a token is, by its kind.
 
 ghost use Rattle.std.specs.Prelude.{◌≡◌, ◌<◌, ◌^◌, IfSome};
-ghost use Rattle.sql_parse.specs.Kinds as spec;
+ghost use Rattle.sql_parse.specs.Kinds as grammar;
+ghost use Rattle.sql_parse.specs.inner.Kinds as spec;
 
 use sql_ast::AstOp;
 use sql_lex::{Keyword, Symbol, TokenKind};
 
 /// Whether the token is the keyword.
-pub fn is_keyword(keyword: Keyword, token: &TokenKind) -> bool
+pub(crate) fn is_keyword(keyword: Keyword, token: &TokenKind) -> bool
     ensures { result ≡ spec.is_keyword keyword token.now }
 {
     match token {
@@ -17,7 +18,7 @@ pub fn is_keyword(keyword: Keyword, token: &TokenKind) -> bool
 }
 
 /// Whether the token is the symbol.
-pub fn is_symbol(symbol: Symbol, token: &TokenKind) -> bool
+pub(crate) fn is_symbol(symbol: Symbol, token: &TokenKind) -> bool
     ensures { result ≡ spec.is_symbol symbol token.now }
 {
     match token {
@@ -27,8 +28,8 @@ pub fn is_symbol(symbol: Symbol, token: &TokenKind) -> bool
 }
 
 /// The number that an integer is, which is below 2 ^ 63.
-pub fn integer_of(token: &TokenKind) -> Option<u64>
-    ensures value { result ≡ spec.integer_of token.now }
+pub(crate) fn integer_of(token: &TokenKind) -> Option<u64>
+    ensures value { result ≡ grammar.integer_of token.now }
     ensures fits { IfSome result (λ n. n < 2 ^ 63) }
 {
     match token {
@@ -38,7 +39,7 @@ pub fn integer_of(token: &TokenKind) -> Option<u64>
 }
 
 /// The operator between two operands that the token is.
-pub fn operator_of(token: &TokenKind) -> Option<AstOp>
+pub(crate) fn operator_of(token: &TokenKind) -> Option<AstOp>
     ensures { result ≡ spec.operator_of token.now }
 {
     match token {

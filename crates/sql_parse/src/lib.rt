@@ -1,9 +1,14 @@
 //! Parses SQL statements.
 //!
-//! `parse` answers the statement that a text spells, or why it spells none with the place in bytes, exactly as
-//! the definition `parsed` gives it, want of memory apart; and it says so in the grammar's own terms. A bad token
-//! is told before anything else, and of the grammar's faults the one further left.
-//! Tokens are read once, from the left, and expressions without recursion.
+//! `parse` answers the statement that a text spells, or the fault that the text has, with its place in bytes:
+//! each exactly where the grammar has it, want of memory apart. A bad token is told before anything else, and
+//! of the grammar's faults the one further left. Every text spells one statement or has one fault, and what is
+//! printed of a statement is read as that statement again.
+//!
+//! What a reader has to believe is `specs/Refusals.antt` with the grammar below it: the lines of expressions,
+//! the forms of statements and the first places where tokens stop being one or an expression is too deep. How
+//! the code reads, tokens once from the left and expressions without recursion, stands in `specs/inner`, and
+//! the laws say that it comes to the same.
 #![tactic(auto)]
 
 mod cursor;
@@ -12,7 +17,7 @@ mod fault;
 mod items;
 mod kinds;
 mod laws;
-mod limits;
+pub mod limits;
 mod list;
 mod names;
 mod parsing;
@@ -24,7 +29,7 @@ mod writes;
 
 pub use fault::ParseFault;
 pub use laws::{
-    expressions_may_be_too_deep, no_statement_goes_on, printed_statements_are_read_back,
-    statements_are_spelled, texts_are_spelled_or_refused, texts_are_their_tokens,
+    printed_statements_are_read_back, texts_are_read_by_the_grammar, texts_have_one_answer,
+    tokens_are_read_by_the_grammar,
 };
 pub use parsing::parse;

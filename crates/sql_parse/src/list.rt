@@ -1,21 +1,21 @@
 //! Parts that may be missing, and lists.
 
 ghost use Rattle.std.specs.Prelude.{◌≡◌, Ok, Err, MatchResult};
-ghost use Rattle.sql_parse.specs.Reading as spec;
-ghost use Rattle.sql_parse.specs.Reading.{Reads};
+ghost use Rattle.sql_parse.specs.inner.Reading as spec;
+ghost use Rattle.sql_parse.specs.inner.Reading.{Reads};
 
 use crate::cursor::Cursor;
 use crate::stop::Stop;
-use sql_ast::Many;
+use geo_base::Many;
 use sql_lex::{Keyword, Symbol};
 use std::alloc::Global;
 
 /// A part of a statement that can stand in a list, or be missing.
-pub trait Part: Drop {
+pub(crate) trait Part: Drop {
     ghost use Rattle.std.specs.Prelude.{List, Result};
     ghost use Rattle.sql_lex.specs.declared.token.TokenKind.{TokenKind};
     ghost use Rattle.sql_parse.specs.declared.stop.Stop.{Stop};
-    ghost use Rattle.sql_parse.specs.Reading.{Reads};
+    ghost use Rattle.sql_parse.specs.inner.Reading.{Reads};
 
     ghost reader: { List TokenKind → Result (Self × List TokenKind) Stop };
 
@@ -27,7 +27,7 @@ pub trait Part: Drop {
 }
 
 /// The part that the keyword introduces, if that comes next.
-pub fn read_after<T: Part>(
+pub(crate) fn read_after<T: Part>(
     alloc: Global,
     cursor: &mut Cursor<'_>,
     keyword: Keyword,
@@ -41,7 +41,7 @@ pub fn read_after<T: Part>(
 }
 
 /// The value, where the parenthesis closes behind it.
-pub fn read_closed<T: Drop>(cursor: &mut Cursor<'_>, value: T) -> Result<T, Stop>
+pub(crate) fn read_closed<T: Drop>(cursor: &mut Cursor<'_>, value: T) -> Result<T, Stop>
     ensures { Reads (spec.and_then (spec.symbol Symbol.Close cursor.old) (λ _. spec.pure value)) result cursor.new }
 {
     cursor.expect_symbol(Symbol::Close)?;
@@ -49,14 +49,17 @@ pub fn read_closed<T: Drop>(cursor: &mut Cursor<'_>, value: T) -> Result<T, Stop
 }
 
 /// The two, where the second was read. Where it wasn't, the first is dropped by a call, which is quick to prove.
-pub fn beside<A: Drop, B: Drop>(first: A, second: Result<B, Stop>) -> Result<(A, B), Stop>
+pub(crate) fn beside<A: Drop, B: Drop>(first: A, second: Result<B, Stop>) -> Result<(A, B), Stop>
     ensures { MatchResult result (λ both. (both.0 ≡ first) × (second ≡ Ok both.1)) (λ stop. second ≡ Err stop) }
 {
     Ok((first, second?))
 }
 
 /// One part or more, with commas between them.
-pub fn read_separated<T: Part>(alloc: Global, cursor: &mut Cursor<'_>) -> Result<Many<T>, Stop>
+pub(crate) fn read_separated<T: Part>(
+    alloc: Global,
+    cursor: &mut Cursor<'_>,
+) -> Result<Many<T>, Stop>
     ensures { Reads (spec.separated T.reader cursor.old) result cursor.new }
 {
     let mut parts = Vec::new(alloc);
@@ -71,7 +74,7 @@ pub fn read_separated<T: Part>(alloc: Global, cursor: &mut Cursor<'_>) -> Result
 }
 
 /// The list that the keyword and BY introduce, if the keyword comes next.
-pub fn read_clause<T: Part>(
+pub(crate) fn read_clause<T: Part>(
     alloc: Global,
     cursor: &mut Cursor<'_>,
     keyword: Keyword,

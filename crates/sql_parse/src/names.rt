@@ -1,7 +1,7 @@
 //! Names, columns and tables.
 
-ghost use Rattle.sql_parse.specs.Reading as spec;
-ghost use Rattle.sql_parse.specs.Reading.{Reads};
+ghost use Rattle.sql_parse.specs.inner.Reading as spec;
+ghost use Rattle.sql_parse.specs.inner.Reading.{Reads};
 
 use crate::cursor::Cursor;
 use crate::expression::read_expression;
@@ -14,8 +14,8 @@ use sql_lex::{Keyword, Symbol, TokenKind};
 use std::alloc::Global;
 
 /// Reads a name.
-#[tactic(auto, unfolding(crate::specs::Reading::name))]
-pub fn read_name(alloc: Global, cursor: &mut Cursor<'_>) -> Result<Txt, Stop>
+#[tactic(auto, unfolding(crate::specs::inner::Reading::name))]
+pub(crate) fn read_name(alloc: Global, cursor: &mut Cursor<'_>) -> Result<Txt, Stop>
     ensures { Reads (spec.name cursor.old) result cursor.new }
 {
     match cursor.peek() {
@@ -29,8 +29,8 @@ pub fn read_name(alloc: Global, cursor: &mut Cursor<'_>) -> Result<Txt, Stop>
 }
 
 /// Reads an integer.
-#[tactic(auto, unfolding(crate::specs::Reading::number))]
-pub fn read_number(cursor: &mut Cursor<'_>) -> Result<u64, Stop>
+#[tactic(auto, unfolding(crate::specs::inner::Reading::number))]
+pub(crate) fn read_number(cursor: &mut Cursor<'_>) -> Result<u64, Stop>
     ensures { Reads (spec.number cursor.old) result cursor.new }
 {
     let Some(token) = cursor.peek() else {
@@ -63,8 +63,8 @@ fn read_qualified(alloc: Global, cursor: &mut Cursor<'_>, first: Txt) -> Result<
 }
 
 /// Reads a column.
-#[tactic(auto, unfolding(crate::specs::Reading::column))]
-pub fn read_column(alloc: Global, cursor: &mut Cursor<'_>) -> Result<ColRef, Stop>
+#[tactic(auto, unfolding(crate::specs::inner::Reading::column))]
+pub(crate) fn read_column(alloc: Global, cursor: &mut Cursor<'_>) -> Result<ColRef, Stop>
     ensures { Reads (spec.column cursor.old) result cursor.new }
 {
     let first = read_name(alloc, cursor)?;
@@ -72,16 +72,16 @@ pub fn read_column(alloc: Global, cursor: &mut Cursor<'_>) -> Result<ColRef, Sto
 }
 
 /// Reads the name behind AS, if that comes next.
-#[tactic(auto, unfolding(crate::specs::Reading::alias))]
-pub fn read_alias(alloc: Global, cursor: &mut Cursor<'_>) -> Result<Option<Txt>, Stop>
+#[tactic(auto, unfolding(crate::specs::inner::Reading::alias))]
+pub(crate) fn read_alias(alloc: Global, cursor: &mut Cursor<'_>) -> Result<Option<Txt>, Stop>
     ensures { Reads (spec.alias cursor.old) result cursor.new }
 {
     read_after(alloc, cursor, Keyword::KAs)
 }
 
 /// Reads a table with its name behind AS.
-#[tactic(auto, unfolding(crate::specs::Reading::table))]
-pub fn read_table(alloc: Global, cursor: &mut Cursor<'_>) -> Result<TableRef, Stop>
+#[tactic(auto, unfolding(crate::specs::inner::Reading::table))]
+pub(crate) fn read_table(alloc: Global, cursor: &mut Cursor<'_>) -> Result<TableRef, Stop>
     ensures { Reads (spec.table cursor.old) result cursor.new }
 {
     let name = read_name(alloc, cursor)?;

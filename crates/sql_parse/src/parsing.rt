@@ -1,9 +1,12 @@
 //! Parses a text.
 
-ghost use Rattle.std.specs.Prelude.{◌≡◌, ◌⊎◌, ◌<◌, ◌^◌, length, Ok, Err, IfOk, IfErr, MatchResult};
+ghost use Rattle.std.specs.Prelude.{◌≡◌, ◌⊎◌, ◌<◌, ◌^◌, length, IfOk, IfErr, MatchResult};
+ghost use Rattle.geo_base.specs.Results.{Gives};
 ghost use Rattle.sql_ast.specs.declared.statement.Statement.{Statement};
-ghost use Rattle.sql_parse.specs.Parsing as spec;
-ghost use Rattle.sql_parse.specs.Parsing.{parsed};
+ghost use Rattle.sql_lex.specs.inner.Tokens.{tokens_of};
+ghost use Rattle.sql_parse.specs.declared.fault.ParseFault.{ParseFault};
+ghost use Rattle.sql_parse.specs.inner.Parsing as spec;
+ghost use Rattle.sql_parse.specs.Places as places;
 ghost use Rattle.sql_parse.specs.Refusals.{IsTextOf, IsRefused};
 
 use crate::fault::ParseFault;
@@ -15,7 +18,7 @@ use std::alloc::Global;
 
 // The place of the token from which on so many are left, and the text's end where none is.
 fn place_of(end: u32, tokens: &[Token], left: usize) -> u32
-    ensures { result ≡ spec.place_of end tokens.now left }
+    ensures { result ≡ places.place_of end tokens.now left }
 {
     match tokens.get(tokens.len().saturating_sub(left)) {
         Some(token) => token.from,
@@ -24,8 +27,8 @@ fn place_of(end: u32, tokens: &[Token], left: usize) -> u32
 }
 
 // The fault of the text where its tokens stop being a statement.
-fn fault_of(end: u32, tokens: &[Token], stop: Stop) -> ParseFault
-    ensures { result ≡ spec.fault_of end tokens.now stop }
+fn placed_fault(end: u32, tokens: &[Token], stop: Stop) -> ParseFault
+    ensures { result ≡ spec.placed_fault end tokens.now stop }
 {
     match stop {
         Stop::Stuck(left) => ParseFault::BadSyntax(place_of(end, tokens, left)),
@@ -44,21 +47,27 @@ fn text_fault(fault: LexFault) -> ParseFault
     }
 }
 
-// The statement that the text spells, or its first fault.
-#[tactic(auto, unfolding(crate::specs::Parsing::parsed))]
+// The tokens of the text, by the steps that cut it.
+fn cut(alloc: Global, text: &str) -> Result<Vec<Token>, LexFault>
+    requires { length text.now < 2 ^ 32 }
+    ensures { Gives LexFault.NoMemory (λ tokens. tokens.items) result (tokens_of text.now) }
+{
+    lex(alloc, text)
+}
+
+// The statement that the text is read as, or its first fault.
+#[tactic(auto, unfolding(crate::specs::inner::Parsing::parsed))]
 fn read_text(alloc: Global, text: &str) -> Result<Statement, ParseFault>
     requires { length text.now < 2 ^ 32 }
-    ensures { MatchResult result
-        (λ statement. parsed text.now ≡ Ok statement)
-        (λ fault. (fault ≡ ParseFault.NoMemory) ⊎ (parsed text.now ≡ Err fault)) }
+    ensures { Gives ParseFault.NoMemory (λ statement. statement) result (spec.parsed text.now) }
 {
-    let tokens = match lex(alloc, text) {
+    let tokens = match cut(alloc, text) {
         Ok(tokens) => tokens,
         Err(fault) => return Err(text_fault(fault)),
     };
     match read_whole(alloc, tokens.as_slice()) {
         Ok(statement) => Ok(statement),
-        Err(stop) => Err(fault_of(text.len() as u32, tokens.as_slice(), stop)),
+        Err(stop) => Err(placed_fault(text.len() as u32, tokens.as_slice(), stop)),
     }
 }
 
@@ -66,13 +75,12 @@ fn read_text(alloc: Global, text: &str) -> Result<Statement, ParseFault>
 /// its tokens comes before any other. Takes time that grows as the text's length.
 pub fn parse(alloc: Global, text: &str) -> Result<Statement, ParseFault>
     requires { length text.now < 2 ^ 32 }
-    ensures exact { MatchResult result
-        (λ statement. parsed text.now ≡ Ok statement)
-        (λ fault. (fault ≡ ParseFault.NoMemory) ⊎ (parsed text.now ≡ Err fault)) }
     ensures spelled { IfOk result (λ statement. IsTextOf text.now statement) }
     ensures only { (statement : Statement) → IsTextOf text.now statement →
         MatchResult result (λ found. found ≡ statement) (λ fault. fault ≡ ParseFault.NoMemory) }
     ensures refused { IfErr result (λ fault. (fault ≡ ParseFault.NoMemory) ⊎ IsRefused text.now fault) }
+    ensures only_there { (fault : ParseFault) → IsRefused text.now fault →
+        MatchResult result (λ _. ⊥) (λ found. (found ≡ ParseFault.NoMemory) ⊎ (found ≡ fault)) }
 {
     read_text(alloc, text)
 }

@@ -1,8 +1,8 @@
 //! SELECT.
 
 ghost use Rattle.std.specs.Prelude.{◌≡◌, Ok};
-ghost use Rattle.sql_parse.specs.Reading as spec;
-ghost use Rattle.sql_parse.specs.Reading.{Reads};
+ghost use Rattle.sql_parse.specs.inner.Reading as spec;
+ghost use Rattle.sql_parse.specs.inner.Reading.{Reads};
 
 use crate::cursor::Cursor;
 use crate::expression::read_expression;
@@ -10,12 +10,13 @@ use crate::items::read_items;
 use crate::list::{Part, beside, read_after, read_clause};
 use crate::names::{read_column, read_number, read_table};
 use crate::stop::Stop;
-use sql_ast::{Ast, ColRef, JoinRef, Many, OrderRef, SelectStmt};
+use geo_base::Many;
+use sql_ast::{Ast, ColRef, JoinRef, OrderRef, SelectStmt};
 use sql_lex::Keyword;
 use std::alloc::Global;
 
 // The table behind JOIN, and the condition of ON.
-#[tactic(auto, unfolding(crate::specs::Reading::joined))]
+#[tactic(auto, unfolding(crate::specs::inner::Reading::joined))]
 fn read_joined(alloc: Global, cursor: &mut Cursor<'_>) -> Result<JoinRef, Stop>
     ensures { Reads (spec.joined cursor.old) result cursor.new }
 {
@@ -33,7 +34,7 @@ impl Part for JoinRef {
     }
 }
 
-#[tactic(auto, unfolding(crate::specs::Reading::join))]
+#[tactic(auto, unfolding(crate::specs::inner::Reading::join))]
 fn read_join(alloc: Global, cursor: &mut Cursor<'_>) -> Result<Option<JoinRef>, Stop>
     ensures { Reads (spec.join cursor.old) result cursor.new }
 {
@@ -41,15 +42,15 @@ fn read_join(alloc: Global, cursor: &mut Cursor<'_>) -> Result<Option<JoinRef>, 
 }
 
 /// Reads the condition behind WHERE, if that comes next.
-#[tactic(auto, unfolding(crate::specs::Reading::filter))]
-pub fn read_filter(alloc: Global, cursor: &mut Cursor<'_>) -> Result<Option<Ast>, Stop>
+#[tactic(auto, unfolding(crate::specs::inner::Reading::filter))]
+pub(crate) fn read_filter(alloc: Global, cursor: &mut Cursor<'_>) -> Result<Option<Ast>, Stop>
     ensures { Reads (spec.filter cursor.old) result cursor.new }
 {
     read_after(alloc, cursor, Keyword::KWhere)
 }
 
 // Whether DESC comes next. ASC may, and says nothing.
-#[tactic(auto, unfolding(crate::specs::Reading::descending))]
+#[tactic(auto, unfolding(crate::specs::inner::Reading::descending))]
 fn read_descending(cursor: &mut Cursor<'_>) -> bool
     ensures { spec.descending cursor.old ≡ Ok (result, cursor.new) }
 {
@@ -60,7 +61,7 @@ fn read_descending(cursor: &mut Cursor<'_>) -> bool
     false
 }
 
-#[tactic(auto, unfolding(crate::specs::Reading::ordered))]
+#[tactic(auto, unfolding(crate::specs::inner::Reading::ordered))]
 fn read_ordered(alloc: Global, cursor: &mut Cursor<'_>) -> Result<OrderRef, Stop>
     ensures { Reads (spec.ordered cursor.old) result cursor.new }
 {
@@ -77,21 +78,21 @@ impl Part for OrderRef {
     }
 }
 
-#[tactic(auto, unfolding(crate::specs::Reading::group))]
+#[tactic(auto, unfolding(crate::specs::inner::Reading::group))]
 fn read_group(alloc: Global, cursor: &mut Cursor<'_>) -> Result<Many<ColRef>, Stop>
     ensures { Reads (spec.group cursor.old) result cursor.new }
 {
     read_clause(alloc, cursor, Keyword::KGroup)
 }
 
-#[tactic(auto, unfolding(crate::specs::Reading::order))]
+#[tactic(auto, unfolding(crate::specs::inner::Reading::order))]
 fn read_order(alloc: Global, cursor: &mut Cursor<'_>) -> Result<Many<OrderRef>, Stop>
     ensures { Reads (spec.order cursor.old) result cursor.new }
 {
     read_clause(alloc, cursor, Keyword::KOrder)
 }
 
-#[tactic(auto, unfolding(crate::specs::Reading::limit))]
+#[tactic(auto, unfolding(crate::specs::inner::Reading::limit))]
 fn read_limit(cursor: &mut Cursor<'_>) -> Result<Option<u64>, Stop>
     ensures { Reads (spec.limit cursor.old) result cursor.new }
 {
@@ -102,8 +103,8 @@ fn read_limit(cursor: &mut Cursor<'_>) -> Result<Option<u64>, Stop>
 }
 
 /// Reads what stands behind the word SELECT.
-#[tactic(auto, unfolding(crate::specs::Reading::select))]
-pub fn read_select(alloc: Global, cursor: &mut Cursor<'_>) -> Result<SelectStmt, Stop>
+#[tactic(auto, unfolding(crate::specs::inner::Reading::select))]
+pub(crate) fn read_select(alloc: Global, cursor: &mut Cursor<'_>) -> Result<SelectStmt, Stop>
     ensures { Reads (spec.select cursor.old) result cursor.new }
 {
     let items = read_items(alloc, cursor)?;

@@ -8,7 +8,7 @@ use std::marker::Model;
 
 /// Values, each laid on the one before. Contracts see the list of them from the top down.
 #[derive(Drop)]
-pub struct Stack<T> {
+pub(crate) struct Stack<T> {
     items: Vec<T>,
 }
 
@@ -24,7 +24,7 @@ impl<T> Model for Stack<T> {
 }
 
 impl<T> Stack<T> {
-    pub fn new(alloc: Global) -> Stack<T>
+    pub(crate) fn new(alloc: Global) -> Stack<T>
         ensures { result ≡ [] }
     {
         Stack {
@@ -32,7 +32,7 @@ impl<T> Stack<T> {
         }
     }
 
-    pub fn push(&mut self, value: T) -> Result<(), NoMemory>
+    pub(crate) fn push(&mut self, value: T) -> Result<(), NoMemory>
     where
         T: Drop,
         ensures { OnOk result (self.new ≡ value ∷ self.old) }
@@ -41,14 +41,14 @@ impl<T> Stack<T> {
         Ok(())
     }
 
-    pub fn pop(&mut self) -> Option<T>
+    pub(crate) fn pop(&mut self) -> Option<T>
         ensures { MatchOption result ((self.old ≡ []) × (self.new ≡ [])) (λ top. self.old ≡ top ∷ self.new) }
     {
         self.items.pop()
     }
 
     /// Takes the value off the top, if there is one.
-    pub fn discard(&mut self)
+    pub(crate) fn discard(&mut self)
     where
         T: Drop,
         ensures { self.new ≡ drop 1 self.old }
@@ -59,7 +59,7 @@ impl<T> Stack<T> {
     }
 
     /// The value on top.
-    pub fn top(&self) -> Option<&T>
+    pub(crate) fn top(&self) -> Option<&T>
         ensures { MatchOption result (self.now ≡ []) (λ top. (rest : List T) × (self.now ≡ top.now ∷ rest)) }
     {
         self.items.last()

@@ -1,10 +1,11 @@
 //! All statements.
 
-ghost use Rattle.std.specs.Prelude.{◌≡◌, ◌⊎◌, ◌∷◌, List, drop, Ok, Err, MatchResult};
+ghost use Rattle.std.specs.Prelude.{◌≡◌, ◌∷◌, List, drop};
+ghost use Rattle.geo_base.specs.Results.{Gives};
 ghost use Rattle.sql_lex.specs.declared.token.TokenKind.{TokenKind};
-ghost use Rattle.sql_parse.specs.Parsing.{kinds_of};
-ghost use Rattle.sql_parse.specs.Reading as spec;
-ghost use Rattle.sql_parse.specs.Reading.{Reads};
+ghost use Rattle.sql_parse.specs.Places.{kinds_of};
+ghost use Rattle.sql_parse.specs.inner.Reading as spec;
+ghost use Rattle.sql_parse.specs.inner.Reading.{Reads};
 
 use crate::cursor::Cursor;
 use crate::names::read_number;
@@ -16,7 +17,7 @@ use sql_lex::{Keyword, Token, TokenKind};
 use std::alloc::Global;
 
 // What stands behind the word BEGIN.
-#[tactic(auto, unfolding(crate::specs::Reading::begin))]
+#[tactic(auto, unfolding(crate::specs::inner::Reading::begin))]
 fn read_begin(cursor: &mut Cursor<'_>) -> Result<Statement, Stop>
     ensures { Reads (spec.begin cursor.old) result cursor.new }
 {
@@ -38,7 +39,7 @@ fn read_word(cursor: &mut Cursor<'_>, statement: Statement) -> Statement
 }
 
 // The statement that this keyword begins, which comes next.
-#[tactic(auto, unfolding(crate::specs::Reading::begins, crate::specs::Reading::keyword))]
+#[tactic(auto, unfolding(crate::specs::inner::Reading::begins, crate::specs::inner::Reading::keyword))]
 fn read_by_keyword(
     alloc: Global,
     cursor: &mut Cursor<'_>,
@@ -80,7 +81,7 @@ fn read_by_keyword(
 }
 
 // Reads a statement.
-#[tactic(auto, unfolding(crate::specs::Reading::statement))]
+#[tactic(auto, unfolding(crate::specs::inner::Reading::statement))]
 fn read_statement(alloc: Global, cursor: &mut Cursor<'_>) -> Result<Statement, Stop>
     ensures { Reads (spec.statement cursor.old) result cursor.new }
 {
@@ -91,11 +92,9 @@ fn read_statement(alloc: Global, cursor: &mut Cursor<'_>) -> Result<Statement, S
 }
 
 /// Reads the statement that all the tokens are.
-#[tactic(auto, unfolding(crate::specs::Reading::whole))]
-pub fn read_whole(alloc: Global, tokens: &[Token]) -> Result<Statement, Stop>
-    ensures { MatchResult result
-        (λ statement. spec.whole (kinds_of tokens.now) ≡ Ok statement)
-        (λ stop. (stop ≡ Stop.NoMemory) ⊎ (spec.whole (kinds_of tokens.now) ≡ Err stop)) }
+#[tactic(auto, unfolding(crate::specs::inner::Reading::whole))]
+pub(crate) fn read_whole(alloc: Global, tokens: &[Token]) -> Result<Statement, Stop>
+    ensures { Gives Stop.NoMemory (λ statement. statement) result (spec.whole (kinds_of tokens.now)) }
 {
     let mut cursor = Cursor::new(tokens);
     let statement = read_statement(alloc, &mut cursor)?;

@@ -8,7 +8,7 @@ use std::alloc::{AllocError, AllocFailed};
 
 /// Why reading stops. A number counts the tokens from the one at fault to the end, so it is 0 at the end.
 #[derive(Clone, Copy, Debug, PartialEq, Eq)]
-pub enum Stop {
+pub(crate) enum Stop {
     /// No statement goes on with this token.
     Stuck(usize),
     /// This token is one operator or one opening parenthesis too many.

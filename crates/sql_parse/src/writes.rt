@@ -1,7 +1,7 @@
 //! Statements that write.
 
-ghost use Rattle.sql_parse.specs.Reading as spec;
-ghost use Rattle.sql_parse.specs.Reading.{Reads};
+ghost use Rattle.sql_parse.specs.inner.Reading as spec;
+ghost use Rattle.sql_parse.specs.inner.Reading.{Reads};
 
 use crate::cursor::Cursor;
 use crate::expression::read_expression;
@@ -9,12 +9,12 @@ use crate::list::{Part, read_closed, read_separated};
 use crate::names::read_name;
 use crate::query::read_filter;
 use crate::stop::Stop;
-use geo_base::Txt;
-use sql_ast::{AstRow, AstSet, DeleteStmt, InsertStmt, Many, UpdateStmt};
+use geo_base::{Many, Txt};
+use sql_ast::{AstRow, AstSet, DeleteStmt, InsertStmt, UpdateStmt};
 use sql_lex::{Keyword, Symbol};
 use std::alloc::Global;
 
-#[tactic(auto, unfolding(crate::specs::Reading::row))]
+#[tactic(auto, unfolding(crate::specs::inner::Reading::row))]
 fn read_row(alloc: Global, cursor: &mut Cursor<'_>) -> Result<AstRow, Stop>
     ensures { Reads (spec.row cursor.old) result cursor.new }
 {
@@ -32,7 +32,7 @@ impl Part for AstRow {
 }
 
 // The columns that are listed behind the table's name, or none.
-#[tactic(auto, unfolding(crate::specs::Reading::columns))]
+#[tactic(auto, unfolding(crate::specs::inner::Reading::columns))]
 fn read_columns(alloc: Global, cursor: &mut Cursor<'_>) -> Result<Many<Txt>, Stop>
     ensures { Reads (spec.columns cursor.old) result cursor.new }
 {
@@ -44,8 +44,8 @@ fn read_columns(alloc: Global, cursor: &mut Cursor<'_>) -> Result<Many<Txt>, Sto
 }
 
 /// Reads what stands behind the word INSERT.
-#[tactic(auto, unfolding(crate::specs::Reading::insert))]
-pub fn read_insert(alloc: Global, cursor: &mut Cursor<'_>) -> Result<InsertStmt, Stop>
+#[tactic(auto, unfolding(crate::specs::inner::Reading::insert))]
+pub(crate) fn read_insert(alloc: Global, cursor: &mut Cursor<'_>) -> Result<InsertStmt, Stop>
     ensures { Reads (spec.insert cursor.old) result cursor.new }
 {
     cursor.expect_keyword(Keyword::KInto)?;
@@ -60,7 +60,7 @@ pub fn read_insert(alloc: Global, cursor: &mut Cursor<'_>) -> Result<InsertStmt,
     })
 }
 
-#[tactic(auto, unfolding(crate::specs::Reading::set))]
+#[tactic(auto, unfolding(crate::specs::inner::Reading::set))]
 fn read_set(alloc: Global, cursor: &mut Cursor<'_>) -> Result<AstSet, Stop>
     ensures { Reads (spec.set cursor.old) result cursor.new }
 {
@@ -79,8 +79,8 @@ impl Part for AstSet {
 }
 
 /// Reads what stands behind the word UPDATE.
-#[tactic(auto, unfolding(crate::specs::Reading::update))]
-pub fn read_update(alloc: Global, cursor: &mut Cursor<'_>) -> Result<UpdateStmt, Stop>
+#[tactic(auto, unfolding(crate::specs::inner::Reading::update))]
+pub(crate) fn read_update(alloc: Global, cursor: &mut Cursor<'_>) -> Result<UpdateStmt, Stop>
     ensures { Reads (spec.update cursor.old) result cursor.new }
 {
     let table = read_name(alloc, cursor)?;
@@ -95,8 +95,8 @@ pub fn read_update(alloc: Global, cursor: &mut Cursor<'_>) -> Result<UpdateStmt,
 }
 
 /// Reads what stands behind the word DELETE.
-#[tactic(auto, unfolding(crate::specs::Reading::delete))]
-pub fn read_delete(alloc: Global, cursor: &mut Cursor<'_>) -> Result<DeleteStmt, Stop>
+#[tactic(auto, unfolding(crate::specs::inner::Reading::delete))]
+pub(crate) fn read_delete(alloc: Global, cursor: &mut Cursor<'_>) -> Result<DeleteStmt, Stop>
     ensures { Reads (spec.delete cursor.old) result cursor.new }
 {
     cursor.expect_keyword(Keyword::KFrom)?;

@@ -4,8 +4,8 @@
 //! block, each form of a tree is a branch that the checker has to follow.
 
 ghost use Rattle.std.specs.Prelude.{◌≡◌, IfOk};
-ghost use Rattle.sql_parse.specs.Expressions as spec;
-ghost use Rattle.sql_parse.specs.Levels as levels;
+ghost use Rattle.sql_parse.specs.inner.Expressions as spec;
+ghost use Rattle.sql_parse.specs.inner.Levels as levels;
 
 use crate::expression::frame::Frame;
 use crate::expression::levels::{SUM_LEVEL, TEST_LEVEL, WHOLE_LEVEL, left_of, level_of};
@@ -82,8 +82,8 @@ fn end_step(alloc: Global, reader: &mut Reader, value: Ast, level: u8) -> Result
 }
 
 /// The token behind a whole operand.
-#[tactic(auto, unfolding(crate::specs::Expressions::complete_step))]
-pub fn complete_step(
+#[tactic(auto, unfolding(crate::specs::inner::Expressions::complete_step))]
+pub(crate) fn complete_step(
     alloc: Global,
     reader: &mut Reader,
     value: Ast,
@@ -105,14 +105,14 @@ pub fn complete_step(
 }
 
 /// The column of the name.
-pub fn column(table: Option<Txt>, name: Txt) -> Ast
+pub(crate) fn column(table: Option<Txt>, name: Txt) -> Ast
     ensures { result ≡ spec.column table name }
 {
     Ast::Column(ColRef { table, name })
 }
 
 /// The token behind a name.
-pub fn named_step(
+pub(crate) fn named_step(
     alloc: Global,
     reader: &mut Reader,
     name: Txt,
@@ -127,7 +127,7 @@ pub fn named_step(
 }
 
 /// The token behind a name and a dot.
-pub fn qualified_step(
+pub(crate) fn qualified_step(
     alloc: Global,
     reader: &mut Reader,
     table: Txt,
@@ -153,7 +153,7 @@ fn null_test(alloc: Global, reader: &mut Reader, value: Ast, is_not: bool) -> Re
 }
 
 /// The token behind IS.
-pub fn is_behind_step(
+pub(crate) fn is_behind_step(
     alloc: Global,
     reader: &mut Reader,
     value: Ast,
@@ -172,7 +172,7 @@ pub fn is_behind_step(
 }
 
 /// The token behind IS NOT.
-pub fn is_not_step(
+pub(crate) fn is_not_step(
     alloc: Global,
     reader: &mut Reader,
     value: Ast,

@@ -1,7 +1,7 @@
 //! What is open around an operand.
 
 ghost use Rattle.std.specs.Prelude.{◌≡◌, IfOk};
-ghost use Rattle.sql_parse.specs.Expressions as spec;
+ghost use Rattle.sql_parse.specs.inner.Expressions as spec;
 
 use crate::expression::levels::{NOT_LEVEL, SIGN_LEVEL, WHOLE_LEVEL, level_of};
 use geo_base::NoMemory;
@@ -11,7 +11,7 @@ use std::alloc::Global;
 
 /// What waits for the operand that is read next.
 #[derive(Drop)]
-pub enum Frame {
+pub(crate) enum Frame {
     /// An opening parenthesis.
     Paren,
     /// A minus sign.
@@ -24,7 +24,7 @@ pub enum Frame {
 
 impl Frame {
     /// How tight it holds together with its operand.
-    pub fn level(&self) -> u8
+    pub(crate) fn level(&self) -> u8
         ensures { result ≡ spec.frame_level self.now }
     {
         match self {
@@ -36,7 +36,7 @@ impl Frame {
     }
 
     /// Whether what comes behind its operand, and holds together at this level, closes it.
-    pub fn is_closed(&self, bound: u8) -> bool
+    pub(crate) fn is_closed(&self, bound: u8) -> bool
         ensures { result ≡ spec.is_closed bound self.now }
     {
         match self {
@@ -48,7 +48,7 @@ impl Frame {
     }
 
     /// It with its operand.
-    pub fn applied(self, alloc: Global, operand: Ast) -> Result<Ast, NoMemory>
+    pub(crate) fn applied(self, alloc: Global, operand: Ast) -> Result<Ast, NoMemory>
         ensures { IfOk result (λ value. value ≡ spec.applied self operand) }
     {
         match self {

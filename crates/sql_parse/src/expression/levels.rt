@@ -1,27 +1,27 @@
 //! How tight the parts of an expression hold together, from 0, the loosest, to 7, the tightest.
 
 ghost use Rattle.std.specs.Prelude.{◌≡◌, ◌≤◌};
-ghost use Rattle.sql_parse.specs.Levels as spec;
+ghost use Rattle.sql_parse.specs.inner.Levels as spec;
 
 use sql_ast::AstOp;
 
 /// NOT and its operand.
-pub const NOT_LEVEL: u8 = 2;
+pub(crate) const NOT_LEVEL: u8 = 2;
 
 /// A comparison, or a test for NULL.
-pub const TEST_LEVEL: u8 = 3;
+pub(crate) const TEST_LEVEL: u8 = 3;
 
 /// An operand of a comparison.
-pub const SUM_LEVEL: u8 = 4;
+pub(crate) const SUM_LEVEL: u8 = 4;
 
 /// A minus sign and its operand.
-pub const SIGN_LEVEL: u8 = 6;
+pub(crate) const SIGN_LEVEL: u8 = 6;
 
 /// An operand without an operator around it.
-pub const WHOLE_LEVEL: u8 = 7;
+pub(crate) const WHOLE_LEVEL: u8 = 7;
 
 /// How tight the operator holds its operands together.
-pub fn level_of(operator: AstOp) -> u8
+pub(crate) fn level_of(operator: AstOp) -> u8
     ensures value { result ≡ spec.level_of operator }
     ensures few { result ≤ 5 }
 {
@@ -40,7 +40,7 @@ pub fn level_of(operator: AstOp) -> u8
 }
 
 /// How tight its left operand is at least: chains group to the left, and a comparison takes no comparison.
-pub fn left_of(operator: AstOp) -> u8
+pub(crate) fn left_of(operator: AstOp) -> u8
     ensures { result ≡ spec.left_of operator }
 {
     match level_of(operator) {

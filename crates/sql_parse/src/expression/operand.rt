@@ -2,7 +2,7 @@
 
 ghost use Rattle.std.specs.Prelude.{◌≡◌, ◌∷◌, IfOk};
 ghost use Rattle.sql_lex.specs.declared.token.TokenKind.{TokenKind};
-ghost use Rattle.sql_parse.specs.Expressions as spec;
+ghost use Rattle.sql_parse.specs.inner.Expressions as spec;
 ghost use Rattle.sql_parse.specs.Kinds.{integer_of};
 
 use crate::expression::frame::Frame;
@@ -57,7 +57,7 @@ fn number(reader: &mut Reader, token: &TokenKind) -> Move
 }
 
 /// An integer behind its minus sign.
-pub fn negative(reader: &mut Reader, token: &TokenKind) -> Move
+pub(crate) fn negative(reader: &mut Reader, token: &TokenKind) -> Move
     ensures { spec.moved result reader.new ≡ spec.negative reader.old (integer_of token.now) }
 {
     match integer_of(token) {
@@ -67,7 +67,7 @@ pub fn negative(reader: &mut Reader, token: &TokenKind) -> Move
 }
 
 // A symbol.
-#[tactic(auto, unfolding(crate::specs::Expressions::operand_step))]
+#[tactic(auto, unfolding(crate::specs::inner::Expressions::operand_step))]
 fn symbol_step(reader: &mut Reader, symbol: Symbol, before_integer: bool) -> Result<Move, NoMemory>
     ensures { IfOk result (λ move. spec.moved move reader.new ≡ spec.operand_step reader.old (TokenKind.Symbol symbol) before_integer) }
 {
@@ -79,7 +79,7 @@ fn symbol_step(reader: &mut Reader, symbol: Symbol, before_integer: bool) -> Res
 }
 
 // A keyword.
-#[tactic(auto, unfolding(crate::specs::Expressions::operand_step))]
+#[tactic(auto, unfolding(crate::specs::inner::Expressions::operand_step))]
 fn keyword_step(
     reader: &mut Reader,
     keyword: Keyword,
@@ -97,8 +97,8 @@ fn keyword_step(
 }
 
 /// The token where an operand has to begin.
-#[tactic(auto, unfolding(crate::specs::Expressions::operand_step))]
-pub fn operand_step(
+#[tactic(auto, unfolding(crate::specs::inner::Expressions::operand_step))]
+pub(crate) fn operand_step(
     alloc: Global,
     reader: &mut Reader,
     token: &TokenKind,

@@ -1,7 +1,7 @@
 //! How far an expression is read.
 
 ghost use Rattle.std.specs.Prelude.{◌≡◌};
-ghost use Rattle.sql_parse.specs.Expressions as spec;
+ghost use Rattle.sql_parse.specs.inner.Expressions as spec;
 
 use crate::expression::frame::Frame;
 use crate::expression::levels::WHOLE_LEVEL;
@@ -13,7 +13,7 @@ use std::alloc::Global;
 
 /// What was read last.
 #[derive(Drop)]
-pub enum Mode {
+pub(crate) enum Mode {
     /// An operand has to begin.
     Operand,
     /// A minus sign, which an integer follows.
@@ -32,19 +32,19 @@ pub enum Mode {
 
 /// An expression that is read up to some token.
 #[derive(Drop)]
-pub struct Reader {
-    pub mode: Mode,
+pub(crate) struct Reader {
+    pub(crate) mode: Mode,
     /// What is open around the next operand.
-    pub frames: Stack<Frame>,
+    pub(crate) frames: Stack<Frame>,
     /// How many operators were read.
-    pub operators: u32,
+    pub(crate) operators: u32,
     /// How many opening parentheses were read.
-    pub openings: u32,
+    pub(crate) openings: u32,
 }
 
 /// What a token does to the reader.
 #[derive(Drop)]
-pub enum Move {
+pub(crate) enum Move {
     /// It belongs to the expression.
     Goes,
     /// The expression ends before it.
@@ -57,7 +57,7 @@ pub enum Move {
 
 impl Reader {
     /// Nothing was read.
-    pub fn new(alloc: Global) -> Reader
+    pub(crate) fn new(alloc: Global) -> Reader
         ensures { result ≡ spec.start }
     {
         Reader {
@@ -76,7 +76,7 @@ impl Reader {
     }
 
     /// A token more was read that is no operator and no opening parenthesis.
-    pub fn goes(&mut self, mode: Mode) -> Move
+    pub(crate) fn goes(&mut self, mode: Mode) -> Move
         ensures { spec.moved result self.new ≡ spec.Goes (spec.reader_in mode self.old.frames self.old) }
     {
         self.turn(mode);
@@ -84,14 +84,14 @@ impl Reader {
     }
 
     /// An operand more was read, which is one token's.
-    pub fn literal(&mut self, value: Ast) -> Move
+    pub(crate) fn literal(&mut self, value: Ast) -> Move
         ensures { spec.moved result self.new ≡ spec.literal self.old value }
     {
         self.goes(Mode::Complete(value, WHOLE_LEVEL))
     }
 
     /// One operator more was read. Where it is one too many, it doesn't matter what the reader is.
-    pub fn with_operator(&mut self, mode: Mode) -> Move
+    pub(crate) fn with_operator(&mut self, mode: Mode) -> Move
         ensures { spec.moved result self.new ≡ spec.with_operator mode self.old.frames self.old }
     {
         self.turn(mode);
@@ -103,7 +103,7 @@ impl Reader {
     }
 
     /// One opening parenthesis more was read. Where it is one too many, it doesn't matter what the reader is.
-    pub fn with_opening(&mut self, mode: Mode) -> Move
+    pub(crate) fn with_opening(&mut self, mode: Mode) -> Move
         ensures { spec.moved result self.new ≡ spec.with_opening mode self.old.frames self.old }
     {
         self.turn(mode);

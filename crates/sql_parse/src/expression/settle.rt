@@ -2,7 +2,7 @@
 
 ghost use Rattle.std.specs.Prelude.{◌≡◌, ℕ, ◌∷◌, true, IfOk, MatchOption};
 ghost use Rattle.sql_ast.specs.declared.ast.Ast.{Ast};
-ghost use Rattle.sql_parse.specs.Expressions as spec;
+ghost use Rattle.sql_parse.specs.inner.Expressions as spec;
 
 use crate::expression::frame::Frame;
 use crate::expression::levels::{NOT_LEVEL, SIGN_LEVEL, level_of};
@@ -26,7 +26,7 @@ fn pop_closed(frames: &mut Stack<Frame>, bound: u8) -> Option<Frame>
 
 /// Closes all that something behind the operand closes, where that holds together at the level `bound`.
 /// Answers what the operand has become, and how tight that holds together.
-pub fn settle(
+pub(crate) fn settle(
     alloc: Global,
     bound: u8,
     operand: Ast,
@@ -46,7 +46,7 @@ pub fn settle(
 }
 
 /// The expression, where the operand ends it and no parenthesis is open.
-pub fn whole(
+pub(crate) fn whole(
     alloc: Global,
     operand: Ast,
     operand_level: u8,
@@ -65,7 +65,7 @@ pub fn whole(
 }
 
 /// How tight an operand has to be for what is open around it.
-pub fn wanted(frames: &Stack<Frame>) -> u8
+pub(crate) fn wanted(frames: &Stack<Frame>) -> u8
     ensures { result ≡ spec.wanted frames.now }
 {
     match frames.top() {

@@ -1,7 +1,7 @@
 //! What a token does.
 
 ghost use Rattle.std.specs.Prelude.{◌≡◌, IfOk};
-ghost use Rattle.sql_parse.specs.Expressions as spec;
+ghost use Rattle.sql_parse.specs.inner.Expressions as spec;
 
 use crate::expression::behind::{
     column, complete_step, is_behind_step, is_not_step, named_step, qualified_step,
@@ -16,8 +16,8 @@ use sql_lex::TokenKind;
 use std::alloc::Global;
 
 /// What the token does, where it is told whether an integer follows.
-#[tactic(auto, unfolding(crate::specs::Expressions::step))]
-pub fn step(
+#[tactic(auto, unfolding(crate::specs::inner::Expressions::step))]
+pub(crate) fn step(
     alloc: Global,
     reader: &mut Reader,
     token: &TokenKind,
@@ -37,8 +37,8 @@ pub fn step(
 }
 
 /// The expression that was read, where all tokens were.
-#[tactic(auto, unfolding(crate::specs::Expressions::finished))]
-pub fn finished(alloc: Global, reader: &mut Reader) -> Result<Option<Ast>, NoMemory>
+#[tactic(auto, unfolding(crate::specs::inner::Expressions::finished))]
+pub(crate) fn finished(alloc: Global, reader: &mut Reader) -> Result<Option<Ast>, NoMemory>
     ensures { IfOk result (λ value. value ≡ spec.finished reader.old) }
 {
     match std::mem::replace(&mut reader.mode, Mode::Operand) {

@@ -1,5 +1,5 @@
 use Rattle.std.proofs.Common.{◌≡◌, length}
-use Rattle.sql_parse.specs.Expressions.{run}
+use Rattle.sql_parse.specs.inner.Expressions.{run}
 use Rattle.sql_parse.proofs.expression.read_on.Given as goal
 
 abbrev pub invariant-loop-token : goal.invariant-loop-token

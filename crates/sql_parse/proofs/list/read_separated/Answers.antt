@@ -1,7 +1,7 @@
 use Rattle.std.proofs.Common.{◌≡◌, true, false}
 use Rattle.sql_lex.specs.declared.symbol.Symbol.TheVariants.{Comma}
-use Rattle.sql_parse.specs.Kinds.{is_symbol}
-use Rattle.sql_parse.specs.Reading.{begins}
+use Rattle.sql_parse.specs.inner.Kinds.{is_symbol}
+use Rattle.sql_parse.specs.inner.Reading.{begins}
 use Rattle.sql_parse.proofs.CodeLists.{one_turn, no_turn, read_all, read_ended, read_more}
 use Rattle.sql_parse.proofs.list.read_separated.Goals as goal
 use Rattle.sql_parse.proofs.list.read_separated.Goals.{else-loop-turn-test, then-loop-turn-test+then-not-eat_symbol}

@@ -1,5 +1,5 @@
 use Rattle.std.proofs.Common.{◌-◌}
-use Rattle.sql_parse.specs.Reading.{separated}
+use Rattle.sql_parse.specs.inner.Reading.{separated}
 use Rattle.sql_parse.proofs.CodeLists.{IsReadUpTo}
 use Rattle.sql_parse.proofs.list.read_separated.Given as goal
 

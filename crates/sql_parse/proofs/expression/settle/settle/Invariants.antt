@@ -1,5 +1,5 @@
 use Rattle.std.proofs.Common.{◌≡◌, length}
-use Rattle.sql_parse.specs.Expressions as spec
+use Rattle.sql_parse.specs.inner.Expressions as spec
 use Rattle.sql_parse.proofs.expression.settle.settle.Given as goal
 
 abbrev pub invariant-loop-frame : goal.invariant-loop-frame

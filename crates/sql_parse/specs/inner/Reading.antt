@@ -1,5 +1,6 @@
--- Statements, read from the left by one function for each line of the grammar.
-use Rattle.std.specs.Prelude.{ℕ, zero, suc, Bool, true, false, if◌then◌else◌, List, [], ◌∷◌, length, drop, Option, Some, None, Result, Ok, Err, ◌≡◌}
+-- Inner: statements, read from the left by one function for each line of the grammar.
+use Rattle.std.specs.Prelude.{ℕ, zero, suc, Bool, true, false, if◌then◌else◌, List, [], ◌∷◌, length, drop, Option, Some, None, Result, Ok, Err}
+use Rattle.geo_base.specs.Results.{Gives}
 use Rattle.sql_ast.specs.declared.ast.Ast.{Ast}
 use Rattle.sql_ast.specs.declared.ast.ColRef.{ColRef}
 use Rattle.sql_ast.specs.declared.delete.DeleteStmt.{DeleteStmt}
@@ -26,8 +27,9 @@ use Rattle.sql_lex.specs.declared.token.TokenKind.{TokenKind}
 use Rattle.sql_lex.specs.declared.token.TokenKind.TheVariants as kind
 use Rattle.sql_parse.specs.declared.stop.Stop.{Stop}
 use Rattle.sql_parse.specs.declared.stop.Stop.TheVariants.{Stuck, NoMemory}
-use Rattle.sql_parse.specs.Kinds.{is_keyword, is_symbol, integer_of}
-use Rattle.sql_parse.specs.Expressions.{run, start}
+use Rattle.sql_parse.specs.Kinds.{integer_of}
+use Rattle.sql_parse.specs.inner.Kinds.{is_keyword, is_symbol}
+use Rattle.sql_parse.specs.inner.Expressions.{run, start}
 
 -- ---- readers
 
@@ -42,20 +44,20 @@ abbrev pub and_then : {A B : Type 0} → Outcome A → (A → Parser B) → Outc
 and_then (Ok read) f = f read.0 read.1
 and_then (Err stop) f = Err stop
 
-infixl 10 ◌>>=◌
-abbrev pub ◌>>=◌ : {A B : Type 0} → Parser A → (A → Parser B) → Parser B
-p >>= f = λ tokens. and_then (p tokens) f
+infixl 10 ◌>->◌
+abbrev pub ◌>->◌ : {A B : Type 0} → Parser A → (A → Parser B) → Parser B
+p >-> f = λ tokens. and_then (p tokens) f
 
 infixl 10 ◌>>◌
 abbrev pub ◌>>◌ : {A B : Type 0} → Parser A → Parser B → Parser B
-p >> q = p >>= (λ _. q)
+p >> q = p >-> (λ _. q)
 
 abbrev pub pure : {A : Type 0} → A → Parser A
 pure a = λ tokens. Ok (a, tokens)
 
 infixr 11 ◌<$>◌
 abbrev pub ◌<$>◌ : {A B : Type 0} → (A → B) → Parser A → Parser B
-f <$> p = p >>= (λ x. pure (f x))
+f <$> p = p >-> (λ x. pure (f x))
 
 abbrev pub refuse : {A : Type 0} → Parser A
 refuse tokens = Err (Stuck (length tokens))
@@ -100,12 +102,12 @@ abbrev pub others : {A : Type 0} → ℕ → Parser A → Parser (List A)
 others zero p tokens = Ok ([], tokens)
 others (suc n) p tokens =
     if begins (is_symbol Comma) tokens
-    then (symbol Comma >> p >>= (λ first. others n p >>= (λ more. pure (first ∷ more)))) tokens
+    then (symbol Comma >> p >-> (λ first. others n p >-> (λ more. pure (first ∷ more)))) tokens
     else Ok ([], tokens)
 
 -- one or more, with commas between them
 abbrev pub separated : {A : Type 0} → Parser A → Parser (List A)
-separated p = p >>= (λ first. (λ tokens. others (length tokens) p tokens) >>= (λ more. pure (first ∷ more)))
+separated p = p >-> (λ first. (λ tokens. others (length tokens) p tokens) >-> (λ more. pure (first ∷ more)))
 
 -- ---- queries
 
@@ -115,26 +117,26 @@ expression = run start
 abbrev pub qualified : List ℕ → Parser ColRef
 qualified first tokens =
     if begins (is_symbol Dot) tokens
-    then (symbol Dot >> name >>= (λ second. pure (record { table = Some first; name = second }))) tokens
+    then (symbol Dot >> name >-> (λ second. pure (record { table = Some first; name = second }))) tokens
     else Ok (record { table = None; name = first }, tokens)
 
 unfoldable pub column : Parser ColRef
-column = name >>= qualified
+column = name >-> qualified
 
 unfoldable pub alias : Parser (Option (List ℕ))
 alias = after KAs name
 
 unfoldable pub table : Parser TableRef
-table = name >>= (λ n. alias >>= (λ a. pure (record { name = n; alias = a })))
+table = name >-> (λ n. alias >-> (λ a. pure (record { name = n; alias = a })))
 
 -- the argument of an aggregate
 unfoldable pub argument : Parser Ast
-argument = symbol Open >> expression >>= (λ e. symbol Close >> pure e)
+argument = symbol Open >> expression >-> (λ e. symbol Close >> pure e)
 
 abbrev pub counted : Parser AstValue
 counted tokens =
     if begins (is_symbol Star) tokens then (symbol Star >> symbol Close >> pure CountAll) tokens
-    else (expression >>= (λ e. symbol Close >> pure (Count e))) tokens
+    else (expression >-> (λ e. symbol Close >> pure (Count e))) tokens
 
 -- what stands in the parentheses behind COUNT
 unfoldable pub count : Parser AstValue
@@ -149,14 +151,14 @@ item_value tokens =
     else (Plain <$> expression) tokens)))
 
 unfoldable pub item : Parser AstItem
-item = item_value >>= (λ v. alias >>= (λ a. pure (record { value = v; alias = a })))
+item = item_value >-> (λ v. alias >-> (λ a. pure (record { value = v; alias = a })))
 
 unfoldable pub items : Parser Items
 items tokens =
     if begins (is_symbol Star) tokens then (symbol Star >> pure of_items.All) tokens else (of_items.List <$> separated item) tokens
 
 unfoldable pub joined : Parser JoinRef
-joined = table >>= (λ t. keyword KOn >> expression >>= (λ e. pure (record { table = t; on = e })))
+joined = table >-> (λ t. keyword KOn >> expression >-> (λ e. pure (record { table = t; on = e })))
 
 unfoldable pub join : Parser (Option JoinRef)
 join = after KJoin joined
@@ -178,7 +180,7 @@ descending tokens =
     else (if begins (is_keyword KAsc) tokens then (keyword KAsc >> pure false) tokens else Ok (false, tokens))
 
 unfoldable pub ordered : Parser OrderRef
-ordered = column >>= (λ c. descending >>= (λ d. pure (record { column = c; descending = d })))
+ordered = column >-> (λ c. descending >-> (λ d. pure (record { column = c; descending = d })))
 
 unfoldable pub order : Parser (List OrderRef)
 order = clause KOrder ordered
@@ -189,35 +191,35 @@ limit = after KLimit number
 -- what stands behind the word SELECT
 unfoldable pub select : Parser SelectStmt
 select =
-    items >>= (λ i. keyword KFrom >> table >>= (λ t. join >>= (λ j. filter >>= (λ f. group >>= (λ g. order >>= (λ o. limit >>= (λ l.
+    items >-> (λ i. keyword KFrom >> table >-> (λ t. join >-> (λ j. filter >-> (λ f. group >-> (λ g. order >-> (λ o. limit >-> (λ l.
     pure (record { items = i; left = t; right = j; filter = f; group = g; order = o; limit = l }))))))))
 
 -- ---- statements that write
 
 unfoldable pub row : Parser AstRow
-row = symbol Open >> separated expression >>= (λ values. symbol Close >> pure (record { values = values }))
+row = symbol Open >> separated expression >-> (λ values. symbol Close >> pure (record { values = values }))
 
 -- the columns that are listed behind the table's name, or none
 unfoldable pub columns : Parser (List (List ℕ))
 columns tokens =
-    if begins (is_symbol Open) tokens then (symbol Open >> separated name >>= (λ names. symbol Close >> pure names)) tokens else Ok ([], tokens)
+    if begins (is_symbol Open) tokens then (symbol Open >> separated name >-> (λ names. symbol Close >> pure names)) tokens else Ok ([], tokens)
 
 -- what stands behind the word INSERT
 unfoldable pub insert : Parser InsertStmt
 insert =
-    keyword KInto >> name >>= (λ t. columns >>= (λ c. keyword KValues >> separated row >>= (λ r.
+    keyword KInto >> name >-> (λ t. columns >-> (λ c. keyword KValues >> separated row >-> (λ r.
     pure (record { table = t; columns = c; rows = r }))))
 
 unfoldable pub set : Parser AstSet
-set = name >>= (λ c. symbol Equal >> expression >>= (λ e. pure (record { column = c; value = e })))
+set = name >-> (λ c. symbol Equal >> expression >-> (λ e. pure (record { column = c; value = e })))
 
 -- what stands behind the word UPDATE
 unfoldable pub update : Parser UpdateStmt
-update = name >>= (λ t. keyword KSet >> separated set >>= (λ s. filter >>= (λ f. pure (record { table = t; sets = s; filter = f }))))
+update = name >-> (λ t. keyword KSet >> separated set >-> (λ s. filter >-> (λ f. pure (record { table = t; sets = s; filter = f }))))
 
 -- what stands behind the word DELETE
 unfoldable pub delete : Parser DeleteStmt
-delete = keyword KFrom >> name >>= (λ t. filter >>= (λ f. pure (record { table = t; filter = f })))
+delete = keyword KFrom >> name >-> (λ t. filter >-> (λ f. pure (record { table = t; filter = f })))
 
 -- ---- all statements
 
@@ -257,10 +259,5 @@ whole tokens = to_end (statement tokens)
 
 -- ---- what a function that reads ensures: the reader's outcome, unless there was no memory
 
-abbrev pub Fails : {A : Type 0} → Stop → Outcome A → Type 0
-Fails NoMemory outcome = Unit {0}
-Fails stop outcome = outcome ≡ Err stop
-
 abbrev pub Reads : {A : Type 0} → Outcome A → Result A Stop → List TokenKind → Type 0
-Reads outcome (Ok a) new = outcome ≡ Ok (a, new)
-Reads outcome (Err stop) new = Fails stop outcome
+Reads outcome result new = Gives NoMemory (λ a. (a, new)) result outcome

@@ -1,4 +1,4 @@
--- Expressions, read one token at a time from the left: what is open, and what a token does to it.
+-- Inner: expressions, read one token at a time from the left: what is open, and what a token does to it.
 use Rattle.std.specs.Prelude.{◌+◌, ℕ, Bool, true, false, nat_le, nat_lt, if◌then◌else◌, List, [], ◌∷◌, length, Option, Some, None, Result, Ok, Err, pos, neg_ℤ}
 use Rattle.geo_base.specs.declared.cell.Cell.TheVariants as cell
 use Rattle.sql_ast.specs.declared.ast.Ast.{Ast}
@@ -18,8 +18,9 @@ use Rattle.sql_parse.specs.declared.expression.reader.Mode.TheVariants as mode
 use Rattle.sql_parse.specs.declared.expression.reader.Reader.{Reader}
 use Rattle.sql_parse.specs.declared.expression.reader.Move.{Move}
 use Rattle.sql_parse.specs.declared.expression.reader.Move.TheVariants as move
-use Rattle.sql_parse.specs.Kinds.{operator_of, integer_of, is_keyword, is_symbol}
-use Rattle.sql_parse.specs.Levels.{level_of, left_of, right_of, not_level, test_level, sum_level, sign_level, whole_level}
+use Rattle.sql_parse.specs.Kinds.{integer_of}
+use Rattle.sql_parse.specs.inner.Kinds.{operator_of, is_keyword, is_symbol}
+use Rattle.sql_parse.specs.inner.Levels.{level_of, left_of, right_of, not_level, test_level, sum_level, sign_level, whole_level}
 use Rattle.sql_parse.specs.Grammar.{begins_integer}
 
 -- ---- what is open

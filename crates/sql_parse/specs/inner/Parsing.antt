@@ -1,37 +1,25 @@
--- The statement that a text spells, or why it spells none.
-use Rattle.std.specs.Prelude.{ℕ, ◌-◌, List, [], ◌∷◌, length, map, drop, Result, Ok, Err}
+-- Inner: what the code reads a text as: the statement, or the fault with its place.
+use Rattle.std.specs.Prelude.{ℕ, List, length, Result, Ok, Err}
 use Rattle.sql_ast.specs.declared.statement.Statement.{Statement}
 use Rattle.sql_lex.specs.declared.token.LexFault.{LexFault}
 use Rattle.sql_lex.specs.declared.token.LexFault.TheVariants as lex
 use Rattle.sql_lex.specs.declared.token.Token.{Token}
-use Rattle.sql_lex.specs.declared.token.TokenKind.{TokenKind}
-use Rattle.sql_lex.specs.Tokens.{Tokens, tokens_of}
+use Rattle.sql_lex.specs.inner.Tokens.{Tokens, tokens_of}
 use Rattle.sql_parse.specs.declared.fault.ParseFault.{ParseFault}
 use Rattle.sql_parse.specs.declared.fault.ParseFault.TheVariants.{BadText, BadSyntax, TooDeep, NoMemory}
 use Rattle.sql_parse.specs.declared.stop.Stop.{Stop}
 use Rattle.sql_parse.specs.declared.stop.Stop.TheVariants as stop
-use Rattle.sql_parse.specs.Reading.{whole}
+use Rattle.sql_parse.specs.Places.{kinds_of, place_of}
+use Rattle.sql_parse.specs.inner.Reading.{whole}
 
--- the kinds of tokens
-abbrev pub kinds_of : List Token → List TokenKind
-kinds_of tokens = map (λ t. t.kind) tokens
-
-abbrev pub first_place : ℕ → List Token → ℕ
-first_place end [] = end
-first_place end (token ∷ more) = token.from
-
--- the place of the token from which on so many are left, and the text's end where none is
-abbrev pub place_of : ℕ → List Token → ℕ → ℕ
-place_of end tokens left = first_place end (drop (length tokens - left) tokens)
-
-abbrev pub fault_of : ℕ → List Token → Stop → ParseFault
-fault_of end tokens (stop.Stuck left) = BadSyntax (place_of end tokens left)
-fault_of end tokens (stop.Deep left) = TooDeep (place_of end tokens left)
-fault_of end tokens stop.NoMemory = NoMemory
+abbrev pub placed_fault : ℕ → List Token → Stop → ParseFault
+placed_fault end tokens (stop.Stuck left) = BadSyntax (place_of end tokens left)
+placed_fault end tokens (stop.Deep left) = TooDeep (place_of end tokens left)
+placed_fault end tokens stop.NoMemory = NoMemory
 
 abbrev pub placed : ℕ → List Token → Result Statement Stop → Result Statement ParseFault
 placed end tokens (Ok statement) = Ok statement
-placed end tokens (Err stop) = Err (fault_of end tokens stop)
+placed end tokens (Err stop) = Err (placed_fault end tokens stop)
 
 abbrev pub text_fault : LexFault → ParseFault
 text_fault (lex.BadText at) = BadText at

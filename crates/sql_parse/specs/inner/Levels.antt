@@ -1,5 +1,5 @@
--- How tight the parts of an expression hold together, as tables for the reader of expressions: a level is the number of a
--- line of the grammar (Lines), from the loosest to the tightest. What the grammar itself says doesn't use these tables.
+-- Inner: how tight the parts of an expression hold together, as tables for the reader of expressions. A level is the number
+-- of a line of the grammar (Lines), from the loosest to the tightest. What the grammar itself says doesn't use these tables.
 --   0  both { OR both }       1  deny { AND deny }     2  NOT deny       3  sum compared with sum, or tested for NULL
 --   4  term { + - term }      5  sign { * / sign }     6  - sign         7  an operand without an operator around it
 use Rattle.std.specs.Prelude.{ℕ, ◌+◌}
