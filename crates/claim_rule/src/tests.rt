@@ -1,9 +1,9 @@
 //! What no clause says: that counters start at 0 and draws come in their order, and that seats of several
 //! threads come to an end of a plan.
-ghost use Rattle.std.specs.Prelude.{◌≡◌, ◌+◌, ◌<◌, true, All, IfSome};
+ghost use Rattle.std.specs.Prelude.{◌≡◌, ◌+◌, ◌<◌, true, All};
 ghost use Rattle.claim_rule.specs.Seats.{view_of, rows_of, IsFreshSeatOf};
 ghost use Rattle.claim_rule.specs.Views.{piece_finished};
-ghost use Rattle.claim_rule.specs.inner.Trial.{three_pieces, Plays, IsAtWork, pairs_claimed};
+ghost use Rattle.claim_rule.specs.inner.Trial.{three_pieces, Plays, IsAtWork, IsClaiming, pairs_claimed};
 
 use crate::{ClaimPlan, ClaimSeat, ClaimTable};
 use std::test::Fail;
@@ -88,37 +88,108 @@ fn worked(table: &ClaimTable, seat: ClaimSeat) -> ClaimSeat
     seat
 }
 
-/// All seats as one.
-fn joined(table: &ClaimTable, mut seats: Vec<ClaimSeat>) -> Option<ClaimSeat>
+/// One seat alone: what it reads of the rows, where it sees each piece finished in its turn.
+fn alone(table: &ClaimTable, seat: &mut ClaimSeat) -> Option<[u64; 3]>
+    requires { IsClaiming table.now seat.old }
+{
+    for expected in 0..3u32 {
+        if table.done(seat) != expected || table.draw_claim(seat) != Some(expected) {
+            return None;
+        }
+        claim_piece(table, seat, expected);
+    }
+    if table.draw_claim(seat).is_some() || table.done(seat) != 3 {
+        return None;
+    }
+    for expected in 0..3u32 {
+        if table.draw_judge(seat) != Some(expected) {
+            return None;
+        }
+    }
+    if table.draw_judge(seat).is_some() {
+        return None;
+    }
+    Some(headers(table, seat))
+}
+
+/// Two seats in turns: how many pieces they see finished, and what the second reads of the rows.
+fn in_turns(
+    table: &ClaimTable,
+    a: &mut ClaimSeat,
+    b: &mut ClaimSeat,
+) -> Option<([u32; 3], [u64; 3])>
+    requires first { IsClaiming table.now a.old }
+    requires second { IsClaiming table.now b.old }
+{
+    let Some(0) = table.draw_claim(a) else {
+        return None;
+    };
+    let Some(1) = table.draw_claim(b) else {
+        return None;
+    };
+    let Some(2) = table.draw_claim(a) else {
+        return None;
+    };
+    claim_piece(table, b, 1);
+    let one = table.done(b);
+    claim_piece(table, a, 2);
+    let two = table.done(a);
+    claim_piece(table, a, 0);
+    if table.draw_claim(b).is_some() {
+        return None;
+    }
+    let three = table.done(b);
+    if three != 3 {
+        return None;
+    }
+    Some(([one, two, three], headers(table, b)))
+}
+
+/// A seat that takes in another, splits off a third and takes that in again: what the third reads of the
+/// rows, where the two draw the first two pieces for judging, and what is drawn then.
+fn divided(
+    table: &ClaimTable,
+    a: &mut ClaimSeat,
+    b: ClaimSeat,
+) -> Option<([u64; 3], [Option<u32>; 2])>
+    requires first { IsClaiming table.now a.old }
+    requires second { IsClaiming table.now b }
+{
+    table.join(a, b);
+    claim_all(table, a);
+    if table.done(a) != 3 {
+        return None;
+    }
+    let mut c = table.split(a, 1);
+    let rows = headers(table, &mut c);
+    if table.draw_judge(&mut c) != Some(0) || table.draw_judge(a) != Some(1) {
+        return None;
+    }
+    table.join(a, c);
+    let third = table.draw_judge(a);
+    let fourth = table.draw_judge(a);
+    Some((rows, [third, fourth]))
+}
+
+/// All seats as one, and what it reads of the rows where it sees all pieces finished.
+fn together(table: &ClaimTable, mut seats: Vec<ClaimSeat>) -> Option<[u64; 3]>
     requires { All (Plays table.now) seats.items }
-    ensures { IfSome result (Plays table.now) }
 {
     let mut seat = seats.pop()?;
     while let Some(other) = seats.pop() {
         table.join(&mut seat, other);
     }
-    Some(seat)
+    if table.done(&mut seat) != 3 {
+        return None;
+    }
+    Some(headers(table, &mut seat))
 }
 
 #[test]
 fn one_seat_plays_a_plan(rt: HostRuntime) -> Result<(), Fail> {
     let (table, mut seats) = ClaimTable::new::<ThreePieces>(rt.alloc(), 3, 3, 1)?;
     let mut seat = seats.pop().unwrap();
-    for expected in 0..3u32 {
-        assert!(rt; table.done(&mut seat) == expected);
-        let Some(piece) = table.draw_claim(&mut seat) else {
-            panic!(rt; "no piece")
-        };
-        assert!(rt; piece == expected);
-        claim_piece(&table, &mut seat, piece);
-    }
-    assert!(rt; table.draw_claim(&mut seat).is_none());
-    assert!(rt; table.done(&mut seat) == 3);
-    assert!(rt; headers(&table, &mut seat) == [12, 7, 0]);
-    for expected in 0..3u32 {
-        assert!(rt; table.draw_judge(&mut seat) == Some(expected));
-    }
-    assert!(rt; table.draw_judge(&mut seat).is_none());
+    assert!(rt; alone(&table, &mut seat) == Some([12, 7, 0]));
     Ok(())
 }
 
@@ -127,42 +198,17 @@ fn two_seats_take_turns(rt: HostRuntime) -> Result<(), Fail> {
     let (table, mut seats) = ClaimTable::new::<ThreePieces>(rt.alloc(), 3, 3, 2)?;
     let mut a = seats.pop().unwrap();
     let mut b = seats.pop().unwrap();
-    let Some(0) = table.draw_claim(&mut a) else {
-        panic!(rt; "not the first piece")
-    };
-    let Some(1) = table.draw_claim(&mut b) else {
-        panic!(rt; "not the second piece")
-    };
-    let Some(2) = table.draw_claim(&mut a) else {
-        panic!(rt; "not the third piece")
-    };
-    claim_piece(&table, &mut b, 1);
-    assert!(rt; table.done(&mut b) == 1);
-    claim_piece(&table, &mut a, 2);
-    assert!(rt; table.done(&mut a) == 2);
-    claim_piece(&table, &mut a, 0);
-    assert!(rt; table.draw_claim(&mut b).is_none());
-    assert!(rt; table.done(&mut b) == 3);
-    assert!(rt; headers(&table, &mut b) == [12, 7, 0]);
+    assert!(rt; in_turns(&table, &mut a, &mut b) == Some(([1, 2, 3], [12, 7, 0])));
     Ok(())
 }
 
-/// A seat that split off another takes it in again, and splits off a third.
 #[test]
 fn a_seat_is_split_and_joined(rt: HostRuntime) -> Result<(), Fail> {
     let (table, mut seats) = ClaimTable::new::<ThreePieces>(rt.alloc(), 3, 3, 2)?;
     let mut a = seats.pop().unwrap();
     let b = seats.pop().unwrap();
-    table.join(&mut a, b);
-    claim_all(&table, &mut a);
-    assert!(rt; table.done(&mut a) == 3);
-    let mut c = table.split(&mut a, 1);
-    assert!(rt; headers(&table, &mut c) == [12, 7, 0]);
-    assert!(rt; table.draw_judge(&mut c) == Some(0));
-    assert!(rt; table.draw_judge(&mut a) == Some(1));
-    table.join(&mut a, c);
-    assert!(rt; table.draw_judge(&mut a) == Some(2));
-    assert!(rt; table.draw_judge(&mut a).is_none());
+    let drawn = [Some(2), None];
+    assert!(rt; divided(&table, &mut a, b) == Some(([12, 7, 0], drawn)));
     Ok(())
 }
 
@@ -170,10 +216,6 @@ fn a_seat_is_split_and_joined(rt: HostRuntime) -> Result<(), Fail> {
 fn eight_threads_play_a_plan(rt: HostRuntime) -> Result<(), Fail> {
     let (table, seats) = ClaimTable::new::<ThreePieces>(rt.alloc(), 3, 3, 8)?;
     let seats = thread::map_vec(&rt, seats, &|seat| worked(&table, seat))?;
-    let Some(mut seat) = joined(&table, seats) else {
-        panic!(rt; "no seat")
-    };
-    assert!(rt; table.done(&mut seat) == 3);
-    assert!(rt; headers(&table, &mut seat) == [12, 7, 0]);
+    assert!(rt; together(&table, seats) == Some([12, 7, 0]));
     Ok(())
 }

@@ -1,7 +1,7 @@
 use Rattle.std.proofs.Common.{vec_len}
 use Rattle.std.specs.Prelude.{All}
 use Rattle.claim_rule.specs.inner.Trial.{Plays}
-use Rattle.claim_rule.proofs.tests.joined.Given as goal
+use Rattle.claim_rule.proofs.tests.together.Given as goal
 
 abbrev pub invariant-loop-other : goal.invariant-loop-other
 invariant-loop-other l = Plays l.table l.seat × All (Plays l.table) l.seats.items
