@@ -1,23 +1,15 @@
-//! Tests of values, schemas, bytes, write sets and the plain merge.
+//! Tests of values, schemas, write sets and the plain merge.
 //!
-//! They call only what the crates below offer, and stand above them so that each library is proved
-//! once: a crate with tests in it is proved without them and with them.
+//! They use only what `geo_base`, `geo_schema` and `write_set` offer, and stand above these so that each is
+//! proved once: a crate with tests in it is proved without them and with them.
 #![tactic(auto)]
 
-#[cfg(test)]
-mod batches;
-#[cfg(test)]
-mod bytes;
-#[cfg(test)]
-mod cell_bytes;
 #[cfg(test)]
 mod changes;
 #[cfg(test)]
 mod merges;
 #[cfg(test)]
 mod nets;
-#[cfg(test)]
-mod packets;
 #[cfg(test)]
 mod rows;
 #[cfg(test)]

@@ -1,6 +1,6 @@
 //! Cells as bytes: spellings, faults with their places, and bytes of any kind.
 use crate::bytes::bytes_of;
-use crate::words::{cell_of, cells_of};
+use crate::cells::{cell_of, cells_of};
 use geo_base::Key;
 use row_codec::{CellReadFault, cell_bytes, cell_size, key_bytes, read_cell, read_cells};
 use std::alloc::Global;

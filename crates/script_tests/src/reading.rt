@@ -1,11 +1,4 @@
-//! Lines of scripts of each form and lines that are none, and where a text that is no script is refused.
-mod events;
-mod heads;
-mod seen;
-mod statements;
-mod tables;
-mod whole;
-
+//! What texts are read as: scripts, or the first bad line.
 use geo_script::{Form, ReadFault, Script, ScriptFault, ScriptKind, read_script};
 use std::alloc::{AllocError, Global};
 
@@ -14,19 +7,19 @@ const PLAY: &[u8] = b"geogauss play 1\nregions 3\ntable kv (k INT KEY, v INT)\nb
 const RUN: &[u8] = b"geogauss run 1\nregions 3\ntable kv (k INT KEY, v INT)\nbegin\n";
 
 /// The answer for a text with this first bad line.
-fn bad(line: u32, kind: ScriptKind) -> Result<(), ReadFault> {
+pub fn bad(line: u32, kind: ScriptKind) -> Result<(), ReadFault> {
     Err(ReadFault::Script(ScriptFault { line, kind }))
 }
 
 /// Whether the text is a script.
-fn read(alloc: Global, form: Form, text: &[u8]) -> Result<(), ReadFault> {
+pub fn read(alloc: Global, form: Form, text: &[u8]) -> Result<(), ReadFault> {
     match read_script(alloc, text, form) {
         Ok(_) => Ok(()),
         Err(fault) => Err(fault),
     }
 }
 
-fn joined(alloc: Global, first: &[u8], second: &[u8]) -> Result<Vec<u8>, AllocError> {
+pub fn joined(alloc: Global, first: &[u8], second: &[u8]) -> Result<Vec<u8>, AllocError> {
     let mut text = first.to_vec(alloc)?;
     text.extend_from_slice(second)?;
     Ok(text)
@@ -41,13 +34,13 @@ fn with_head(alloc: Global, form: Form, lines: &[u8]) -> Result<Vec<u8>, AllocEr
 }
 
 /// Whether the lines behind such a head are those of a script.
-fn read_lines(alloc: Global, form: Form, lines: &[u8]) -> Result<(), ReadFault> {
+pub fn read_lines(alloc: Global, form: Form, lines: &[u8]) -> Result<(), ReadFault> {
     let text = with_head(alloc, form, lines)?;
     read(alloc, form, &text)
 }
 
 /// The script of the lines behind such a head.
-fn script_of(alloc: Global, form: Form, lines: &[u8]) -> Result<Script, ReadFault> {
+pub fn script_of(alloc: Global, form: Form, lines: &[u8]) -> Result<Script, ReadFault> {
     let text = with_head(alloc, form, lines)?;
     read_script(alloc, &text, form)
 }

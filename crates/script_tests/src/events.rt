@@ -1,6 +1,6 @@
 //! The lines of events.
-use crate::scripts::seen::{Seen, is_seen};
-use crate::scripts::{bad, read_lines, script_of};
+use crate::seen::{Seen, is_seen};
+use crate::reading::{bad, read_lines, script_of};
 use geo_script::{Form, ScriptKind};
 use std::alloc::Global;
 use std::test::Fail;

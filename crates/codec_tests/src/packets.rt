@@ -6,9 +6,9 @@ use set_codec::{CodecFault, Limit, Packet, packet_bytes, read_batch, read_packet
 use std::alloc::Global;
 use std::test::Fail;
 
-const NUMBERS: &str = "acc|id,amount|0|";
+const NUMBERS: &str = "table acc (id INT KEY, amount INT)";
 
-const TEXTS: &str = "acc|id,amount:1024|0|";
+const TEXTS: &str = "table acc (id INT KEY, amount TEXT)";
 
 fn is_fetch_spelled(
     alloc: Global,

@@ -1,5 +1,5 @@
 //! The lines before those of events, and texts that are too long.
-use crate::scripts::{bad, read};
+use crate::reading::{bad, read};
 use geo_script::{Form, ReadFault, ScriptKind, read_script};
 use std::alloc::Global;
 use std::test::Fail;

@@ -1,23 +1,26 @@
 //! Batches as bytes: one worked batch, faults with their places, limits, and bytes of any kind.
 use crate::bytes::bytes_of;
-use crate::changes::batch_text;
-use crate::tables::schema_of;
+use crate::printing::batch_text;
+use crate::tables::{schema_of, schema_with_keys};
 use geo_schema::Schema;
 use set_codec::{CodecFault, Limit, batch_bytes, batch_size, read_batch};
 use std::alloc::Global;
 use std::test::Fail;
 
-/// A number, which is the key, and another.
-const NUMBERS: &str = "acc|id,amount|0|";
+const NUMBERS: &str = "table acc (id INT KEY, amount INT)";
 
-/// A number, which is the key, and a text.
-const TEXTS: &str = "acc|id,amount:1024|0|";
+const TEXTS: &str = "table acc (id INT KEY, amount TEXT)";
 
-/// A number, which is the key, another that isn't null, and a text of at most 8 bytes.
-const NARROW: &str = "acc|id,amount!,note:8|0|";
+const NARROW: &str = "table acc (id INT KEY, amount INT NOT NULL, note TEXT(8))";
 
-/// The table of numbers, and one of which the key is the last column and then the first.
-const TWO_TABLES: &str = "acc|id,amount|0|/place|owner:8,open:truth,no|20|";
+const TWO_TABLES: &str = "\
+table acc (id INT KEY, amount INT)
+table place (owner TEXT(8) KEY, open BOOL, no INT KEY)";
+
+/// The schema of the two tables, where the key of the second is its last column and then its first.
+fn two_tables(alloc: Global) -> Result<Schema, Fail> {
+    schema_with_keys(alloc, TWO_TABLES, &[&[0], &[2, 0]])
+}
 
 /// A batch of the two tables, and what it says.
 const BATCH: [u8; 88] = [
@@ -29,8 +32,8 @@ const BATCH: [u8; 88] = [
 
 const BATCH_TEXT: &str = "\
 region 2 epoch 5
-start 4; 0 1 -> 1 -; 1 7 'é -> 'é yes 7
-start 3; 1 -1 ' -> ' no -1; 1 0 'a removed";
+start 4; 0(1) -> (1, NULL); 1(7, 'é') -> ('é', TRUE, 7)
+start 3; 1(-1, '') -> ('', FALSE, -1); 1(0, 'a') removed";
 
 fn is_worked_batch(alloc: Global, schema: &Schema) -> Result<bool, Fail> {
     let batch = read_batch(alloc, schema, 3, &BATCH)?;
@@ -45,16 +48,26 @@ fn is_worked_batch(alloc: Global, schema: &Schema) -> Result<bool, Fail> {
 
 #[test]
 fn a_batch_has_its_spelling(rt: HostRuntime) -> Result<(), Fail> {
-    let schema = schema_of(rt.alloc(), TWO_TABLES)?;
+    let schema = two_tables(rt.alloc())?;
     assert!(rt; is_worked_batch(rt.alloc(), &schema)?);
     Ok(())
+}
+
+/// What bytes are told that are to be a batch of the schema.
+fn told_by(
+    alloc: Global,
+    schema: &Schema,
+    regions: u8,
+    words: &str,
+) -> Result<Option<CodecFault>, Fail> {
+    let bytes = bytes_of(alloc, words)?;
+    Ok(read_batch(alloc, schema, regions, &bytes).err())
 }
 
 /// What bytes are told that are to be a batch of the tables.
 fn told(alloc: Global, tables: &str, regions: u8, words: &str) -> Result<Option<CodecFault>, Fail> {
     let schema = schema_of(alloc, tables)?;
-    let bytes = bytes_of(alloc, words)?;
-    Ok(read_batch(alloc, &schema, regions, &bytes).err())
+    told_by(alloc, &schema, regions, words)
 }
 
 /// Batches of the table of numbers for so many regions, and what they are told.
@@ -217,6 +230,7 @@ fn columns_refuse_nulls_and_long_texts(rt: HostRuntime) -> Result<(), Fail> {
 /// The order of a change is tested behind its key, and before its other cells.
 #[test]
 fn batches_of_two_tables(rt: HostRuntime) -> Result<(), Fail> {
+    let schema = two_tables(rt.alloc())?;
     for (words, fault) in [
         ("GGB1 0 #1 #1 #0 #2 0 2 @1 1 2 @1 2 0 1 97", None),
         (
@@ -232,7 +246,7 @@ fn batches_of_two_tables(rt: HostRuntime) -> Result<(), Fail> {
             Some(CodecFault::NotOrdered(36)),
         ),
     ] {
-        assert_eq!(rt; told(rt.alloc(), TWO_TABLES, 1, words)?, fault, "{words}");
+        assert_eq!(rt; told_by(rt.alloc(), &schema, 1, words)?, fault, "{words}");
     }
     Ok(())
 }
@@ -262,7 +276,7 @@ fn told_of_cut(alloc: Global, schema: &Schema, cut: usize) -> Option<CodecFault>
 
 #[test]
 fn a_cut_batch_is_short(rt: HostRuntime) -> Result<(), Fail> {
-    let schema = schema_of(rt.alloc(), TWO_TABLES)?;
+    let schema = two_tables(rt.alloc())?;
     for cut in 0..BATCH.len() {
         let told = told_of_cut(rt.alloc(), &schema, cut);
         assert_eq!(rt; told, Some(CodecFault::Short(cut)));
@@ -278,7 +292,7 @@ fn told_of_longer(alloc: Global, schema: &Schema) -> Result<Option<CodecFault>, 
 
 #[test]
 fn a_longer_batch_has_a_byte_behind_it(rt: HostRuntime) -> Result<(), Fail> {
-    let schema = schema_of(rt.alloc(), TWO_TABLES)?;
+    let schema = two_tables(rt.alloc())?;
     let told = told_of_longer(rt.alloc(), &schema)?;
     assert_eq!(rt; told, Some(CodecFault::Trailing(88)));
     Ok(())
@@ -294,7 +308,7 @@ fn is_read_as_it_is(alloc: Global, schema: &Schema, bytes: &[u8]) -> Result<bool
 
 #[test]
 fn a_batch_with_a_changed_byte_is_read_as_it_is(rt: HostRuntime) -> Result<(), Fail> {
-    let schema = schema_of(rt.alloc(), TWO_TABLES)?;
+    let schema = two_tables(rt.alloc())?;
     for place in 0..BATCH.len() {
         for byte in 0..=u8::MAX {
             let mut bytes = BATCH;
@@ -324,7 +338,7 @@ fn random_bytes(alloc: Global, state: &mut u64, round: usize) -> Result<Vec<u8>,
 
 #[test]
 fn random_bytes_are_read_as_they_are(rt: HostRuntime) -> Result<(), Fail> {
-    let schema = schema_of(rt.alloc(), TWO_TABLES)?;
+    let schema = two_tables(rt.alloc())?;
     let mut state = 1u64;
     for round in 0..1000usize {
         let bytes = random_bytes(rt.alloc(), &mut state, round)?;

@@ -1,5 +1,5 @@
 //! Lines that declare tables and indexes.
-use crate::scripts::{bad, joined, read};
+use crate::reading::{bad, joined, read};
 use geo_script::{Form, ReadFault, ScriptKind};
 use std::alloc::{AllocError, Global};
 use std::test::Fail;

@@ -1,5 +1,5 @@
 //! A whole script: its regions, its tables with their columns, keys and indexes, and its events.
-use crate::scripts::seen::{Seen, is_seen};
+use crate::seen::{Seen, is_seen};
 use geo_schema::{ColumnDef, IndexDef, Kind, Schema, TableDef};
 use geo_script::{EventAt, Form, ReadFault, Script, read_script};
 use std::alloc::Global;

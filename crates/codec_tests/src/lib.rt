@@ -1,0 +1,20 @@
+//! Tests of cells, batches and packets as bytes.
+//!
+//! They use only what `row_codec` and `set_codec` offer, and make their schemas by reading scripts. What is
+//! wanted is worked by hand from the forms of the bytes.
+#![tactic(auto)]
+
+#[cfg(test)]
+mod batches;
+#[cfg(test)]
+mod bytes;
+#[cfg(test)]
+mod cell_bytes;
+#[cfg(test)]
+mod cells;
+#[cfg(test)]
+mod packets;
+#[cfg(test)]
+mod printing;
+#[cfg(test)]
+mod tables;

@@ -1,0 +1,33 @@
+//! Tables as lines of a script, as `table acc (id INT KEY, amount INT)`.
+use geo_base::Duplicate;
+use geo_schema::{PlaceList, Schema, TableDef};
+use geo_script::{Form, read_script};
+use std::alloc::Global;
+use std::test::Fail;
+
+/// The schema of the tables that the lines declare.
+pub fn schema_of(alloc: Global, lines: &str) -> Result<Schema, Fail> {
+    let text = format!(in alloc; "geogauss play 1\nregions 1\n{lines}\nbegin\n")?;
+    Ok(read_script(alloc, text.as_bytes(), Form::Play)?.schema)
+}
+
+/// The table with another order of the columns of its key, as no script declares it.
+fn with_key(alloc: Global, table: &TableDef, key: &[u8]) -> Result<TableDef, Fail> {
+    Ok(TableDef {
+        name: table.name.copy(alloc)?,
+        columns: table.columns.copy(alloc)?,
+        key: PlaceList::new(Vec::from_slice(alloc, key)?),
+        indexes: table.indexes.copy(alloc)?,
+    })
+}
+
+/// The schema of the tables that the lines declare, of each the key at the same place.
+pub fn schema_with_keys(alloc: Global, lines: &str, keys: &[&[u8]]) -> Result<Schema, Fail> {
+    let declared = schema_of(alloc, lines)?;
+    let mut tables = Vec::new(alloc);
+    for (no, key) in (0u8..).zip(keys.iter()) {
+        let table = declared.table(no).ok_or("a key of no table")?;
+        tables.push(with_key(alloc, table, key)?)?;
+    }
+    Ok(Schema::new(alloc, tables)?)
+}
