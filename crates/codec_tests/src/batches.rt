@@ -1,7 +1,7 @@
 //! Batches as bytes: one worked batch, faults with their places, limits, and bytes of any kind.
 use crate::bytes::bytes_of;
 use crate::printing::batch_text;
-use crate::tables::{schema_of, schema_with_keys};
+use crate::tables::{schema_of, two_tables};
 use geo_schema::Schema;
 use set_codec::{CodecFault, Limit, batch_bytes, batch_size, read_batch};
 use std::alloc::Global;
@@ -12,15 +12,6 @@ const NUMBERS: &str = "table acc (id INT KEY, amount INT)";
 const TEXTS: &str = "table acc (id INT KEY, amount TEXT)";
 
 const NARROW: &str = "table acc (id INT KEY, amount INT NOT NULL, note TEXT(8))";
-
-const TWO_TABLES: &str = "\
-table acc (id INT KEY, amount INT)
-table place (owner TEXT(8) KEY, open BOOL, no INT KEY)";
-
-/// The schema of the two tables, where the key of the second is its last column and then its first.
-fn two_tables(alloc: Global) -> Result<Schema, Fail> {
-    schema_with_keys(alloc, TWO_TABLES, &[&[0], &[2, 0]])
-}
 
 /// A batch of the two tables, and what it says.
 const BATCH: [u8; 88] = [

@@ -105,6 +105,63 @@ fn spelled_key(alloc: Global, words: &str) -> Result<Vec<u8>, Fail> {
     Ok(out)
 }
 
+#[test]
+fn keys_have_their_spellings(rt: HostRuntime) -> Result<(), Fail> {
+    for (words, bytes) in [
+        ("'", "2 0 0"),
+        ("-1 no", "@-1 3"),
+        ("yes 'é 258 '", "4 2 0 2 195 169 @258 2 0 0"),
+    ] {
+        let spelled = spelled_key(rt.alloc(), words)?;
+        let wanted = bytes_of(rt.alloc(), bytes)?;
+        assert_eq!(rt; spelled.as_slice(), wanted.as_slice(), "{words}");
+    }
+    Ok(())
+}
+
+/// How many cells are read from the place on, of so many that are wanted, and the place behind them.
+fn read_from(
+    alloc: Global,
+    bytes: &[u8],
+    at: usize,
+    count: u8,
+) -> Result<(usize, usize), CellReadFault> {
+    if at > bytes.len() {
+        return Err(CellReadFault::Short(at));
+    }
+    let (cells, next) = read_cells(alloc, bytes, at, count)?;
+    Ok((cells.len(), next))
+}
+
+/// A place, a count, bytes, and what is read: a cell of a number has 9 bytes.
+const CELLS: [(usize, u8, &str, Result<(usize, usize), CellReadFault>); 14] = [
+    (0, 0, "9 9", Ok((0, 0))),
+    (2, 0, "9 9", Ok((0, 2))),
+    (0, 2, "@1 0", Ok((2, 10))),
+    (0, 2, "@1 0 9", Ok((2, 10))),
+    (1, 3, "9 2 0 1 97 4 3", Ok((3, 7))),
+    (0, 2, "@1", Err(CellReadFault::Short(9))),
+    (0, 2, "@1 5", Err(CellReadFault::BadTag(9))),
+    (0, 2, "@1 2 0", Err(CellReadFault::Short(11))),
+    (0, 2, "@1 2 0 2 97", Err(CellReadFault::Short(13))),
+    (0, 2, "@1 2 4 1", Err(CellReadFault::TooLong(10))),
+    (0, 2, "@1 2 0 1 255", Err(CellReadFault::BadUtf8(12))),
+    (1, 2, "9 @1 5", Err(CellReadFault::BadTag(10))),
+    (0, 3, "0 4 7", Err(CellReadFault::BadTag(2))),
+    // the fault of the first cell comes first
+    (0, 2, "2 0 1 255 5", Err(CellReadFault::BadUtf8(3))),
+];
+
+#[test]
+fn cells_behind_the_first_have_their_faults(rt: HostRuntime) -> Result<(), Fail> {
+    for (at, count, words, wanted) in CELLS {
+        let bytes = bytes_of(rt.alloc(), words)?;
+        let found = read_from(rt.alloc(), &bytes, at, count);
+        assert_eq!(rt; found, wanted, "{words}");
+    }
+    Ok(())
+}
+
 /// Whether the bytes are read as the three cells of the words.
 fn are_read(alloc: Global, words: &str, bytes: &[u8]) -> Result<bool, Fail> {
     let cells = cells_of(alloc, words)?;

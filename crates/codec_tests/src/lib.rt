@@ -7,11 +7,15 @@
 #[cfg(test)]
 mod batches;
 #[cfg(test)]
+mod built;
+#[cfg(test)]
 mod bytes;
 #[cfg(test)]
 mod cell_bytes;
 #[cfg(test)]
 mod cells;
+#[cfg(test)]
+mod fitting;
 #[cfg(test)]
 mod packets;
 #[cfg(test)]

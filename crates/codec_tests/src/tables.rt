@@ -22,7 +22,7 @@ fn with_key(alloc: Global, table: &TableDef, key: &[u8]) -> Result<TableDef, Fai
 }
 
 /// The schema of the tables that the lines declare, of each the key at the same place.
-pub fn schema_with_keys(alloc: Global, lines: &str, keys: &[&[u8]]) -> Result<Schema, Fail> {
+fn schema_with_keys(alloc: Global, lines: &str, keys: &[&[u8]]) -> Result<Schema, Fail> {
     let declared = schema_of(alloc, lines)?;
     let mut tables = Vec::new(alloc);
     for (no, key) in (0u8..).zip(keys.iter()) {
@@ -30,4 +30,13 @@ pub fn schema_with_keys(alloc: Global, lines: &str, keys: &[&[u8]]) -> Result<Sc
         tables.push(with_key(alloc, table, key)?)?;
     }
     Ok(Schema::new(alloc, tables)?)
+}
+
+const TWO_TABLES: &str = "\
+table acc (id INT KEY, amount INT)
+table place (owner TEXT(8) KEY, open BOOL, no INT KEY)";
+
+/// Two tables, where the key of the second is its last column and then its first.
+pub fn two_tables(alloc: Global) -> Result<Schema, Fail> {
+    schema_with_keys(alloc, TWO_TABLES, &[&[0], &[2, 0]])
 }

@@ -1,6 +1,6 @@
 //! The lines of events.
-use crate::seen::{Seen, is_seen};
 use crate::reading::{bad, read_lines, script_of};
+use crate::seen::{Seen, is_seen};
 use geo_script::{Form, ScriptKind};
 use std::alloc::Global;
 use std::test::Fail;

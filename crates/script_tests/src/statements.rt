@@ -79,8 +79,16 @@ const LAST: [(Form, Long, Option<ScriptKind>); 7] = [
         Some(ScriptKind::LongStatement),
     ),
     (Form::Run, ("crash 0 after 1", "", 0), None),
-    (Form::Run, ("sql 1.64 y", "", 0), Some(ScriptKind::BadNumber)),
-    (Form::Run, ("sql 0.64 y", "", 0), Some(ScriptKind::BadNumber)),
+    (
+        Form::Run,
+        ("sql 1.64 y", "", 0),
+        Some(ScriptKind::BadNumber),
+    ),
+    (
+        Form::Run,
+        ("sql 0.64 y", "", 0),
+        Some(ScriptKind::BadNumber),
+    ),
     (Form::Play, ("sql 1.0 y", "", 0), None),
 ];
 

@@ -1,5 +1,6 @@
 //! A whole script: its regions, its tables with their columns, keys and indexes, and its events.
 use crate::seen::{Seen, is_seen};
+use geo_base::{Duplicate, NoMemory};
 use geo_schema::{ColumnDef, IndexDef, Kind, Schema, TableDef};
 use geo_script::{EventAt, Form, ReadFault, Script, read_script};
 use std::alloc::Global;
@@ -142,13 +143,20 @@ fn script(alloc: Global) -> Result<Script, ReadFault> {
     read_script(alloc, &text, Form::Play)
 }
 
-fn is_whole(alloc: Global) -> Result<bool, ReadFault> {
+/// Whether the schema has the tables, and a copy of it too.
+fn has_tables(alloc: Global, schema: &Schema) -> Result<bool, NoMemory> {
+    let copy = schema.copy(alloc)?;
+    Ok(are_tables(schema) && are_tables(&copy))
+}
+
+fn is_whole(alloc: Global) -> Result<bool, Fail> {
     let script = script(alloc)?;
-    Ok(script.regions == 3 && are_tables(&script.schema) && are_events(script.events.items()))
+    let tables = has_tables(alloc, &script.schema)?;
+    Ok(script.regions == 3 && tables && are_events(script.events.items()))
 }
 
 #[test]
 fn scripts_are_read_whole(rt: HostRuntime) -> Result<(), Fail> {
-    assert_eq!(rt; is_whole(rt.alloc()), Ok(true));
+    assert!(rt; is_whole(rt.alloc())?);
     Ok(())
 }

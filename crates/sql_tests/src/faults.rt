@@ -3,7 +3,7 @@ use crate::parsed::fault_of;
 use sql_parse::ParseFault;
 use std::test::Fail;
 
-const FAULTS: [(&str, ParseFault); 24] = [
+const FAULTS: [(&str, ParseFault); 38] = [
     ("1a SELECT", ParseFault::BadText(0)),
     (
         "SELECT 9223372036854775808 FROM acc",
@@ -28,6 +28,33 @@ const FAULTS: [(&str, ParseFault); 24] = [
     ("SELECT COUNT(*) + 1 FROM t", ParseFault::BadSyntax(16)),
     ("INSERT INTO t () VALUES (1)", ParseFault::BadSyntax(15)),
     ("COMMIT COMMIT", ParseFault::BadSyntax(7)),
+    // what stands behind a test, or before the operand of one
+    ("SELECT a IS NULL IS NULL FROM t", ParseFault::BadSyntax(17)),
+    (
+        "DELETE FROM t WHERE a IS NOT NULL IS NULL",
+        ParseFault::BadSyntax(34),
+    ),
+    ("SELECT a = NOT b FROM t", ParseFault::BadSyntax(11)),
+    // the star and the empty parentheses of aggregates
+    ("SELECT SUM(*) FROM t", ParseFault::BadSyntax(11)),
+    ("SELECT MAX(*) FROM t", ParseFault::BadSyntax(11)),
+    ("SELECT COUNT() FROM t", ParseFault::BadSyntax(13)),
+    ("SELECT COUNT(a, b) FROM t", ParseFault::BadSyntax(14)),
+    // names of columns with a star and with two dots
+    ("SELECT t.* FROM t", ParseFault::BadSyntax(9)),
+    ("SELECT a.b.c FROM t", ParseFault::BadSyntax(10)),
+    // statements that aren't explained, and queries that lock rows
+    ("EXPLAIN UPDATE t SET a = 1", ParseFault::BadSyntax(8)),
+    ("EXPLAIN EXPLAIN SELECT a FROM t", ParseFault::BadSyntax(8)),
+    ("SELECT a FROM t FOR UPDATE", ParseFault::BadSyntax(16)),
+    (
+        "SELECT * FROM t WHERE a FOR UPDATE",
+        ParseFault::BadSyntax(24),
+    ),
+    (
+        "SELECT * FROM t LIMIT 1 FOR UPDATE",
+        ParseFault::BadSyntax(24),
+    ),
     // cut inside a token
     ("SELEC", ParseFault::BadSyntax(0)),
     ("SELECT a FRO", ParseFault::BadSyntax(9)),

@@ -1,15 +1,11 @@
-//! Tests of values, schemas, write sets and the plain merge.
+//! Tests of values, and of schemas with their rows.
 //!
-//! They use only what `geo_base`, `geo_schema` and `write_set` offer, and stand above these so that each is
-//! proved once: a crate with tests in it is proved without them and with them.
+//! They use only what `geo_base` and `geo_schema` offer, and stand above these so that each is proved once:
+//! a crate with tests in it is proved without them and with them.
 #![tactic(auto)]
 
 #[cfg(test)]
-mod changes;
-#[cfg(test)]
-mod merges;
-#[cfg(test)]
-mod nets;
+mod orders;
 #[cfg(test)]
 mod rows;
 #[cfg(test)]

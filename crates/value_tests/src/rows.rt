@@ -108,28 +108,41 @@ fn edge_of(alloc: Global, text: &str) -> Result<Edge, Fail> {
     }
 }
 
-/// Whether the key of 4 and 9 lies between the edges.
-fn is_between(alloc: Global, low: &str, high: &str) -> Result<bool, Fail> {
+/// Whether the key lies between the edges.
+fn is_between(alloc: Global, key: &str, low: &str, high: &str) -> Result<bool, Fail> {
     let range = KeyRange {
         low: edge_of(alloc, low)?,
         high: edge_of(alloc, high)?,
     };
-    let key = cells_of(alloc, "4 9")?;
-    Ok(range.holds(&key))
+    Ok(range.holds(&cells_of(alloc, key)?))
 }
+
+/// A key, two edges, and whether it lies between them. A key that has fewer cells than an edge and begins it
+/// is less than the edge.
+const RANGES: [(&str, &str, &str, bool); 16] = [
+    ("4 9", "", "", true),
+    ("4 9", "[4", "[4 9", true),
+    ("4 9", "(4", "", false),
+    ("4 9", "", "(4", false),
+    ("4 9", "(3", "(5", true),
+    ("4 9", "[4 10", "", false),
+    ("4", "[4 9", "", false),
+    ("4", "(4 9", "", false),
+    ("4", "", "[4 9", true),
+    ("4", "", "(4 9", true),
+    ("4", "[4 -", "", false),
+    ("4", "(3 9", "", true),
+    ("4", "[5 0", "", false),
+    ("4", "", "(5 0", true),
+    ("4", "", "[3 9", false),
+    ("4", "[3 9", "(4 9", true),
+];
 
 #[test]
 fn keys_between_edges(rt: HostRuntime) -> Result<(), Fail> {
-    for (low, high, holds) in [
-        ("", "", true),
-        ("[4", "[4 9", true),
-        ("(4", "", false),
-        ("", "(4", false),
-        ("(3", "(5", true),
-        ("[4 10", "", false),
-    ] {
-        let between = is_between(rt.alloc(), low, high)?;
-        assert_eq!(rt; between, holds, "{low} {high}");
+    for (key, low, high, holds) in RANGES {
+        let between = is_between(rt.alloc(), key, low, high)?;
+        assert_eq!(rt; between, holds, "{key} from {low} to {high}");
     }
     Ok(())
 }

@@ -1,7 +1,6 @@
 //! Cells as words: `-` is NULL, `no` and `yes` are truths, `'` begins a text, and all else is a number.
 use geo_base::{Cell, Txt};
 use std::alloc::Global;
-use std::fmt::Write;
 use std::test::Fail;
 
 /// The cell of a word.
@@ -28,24 +27,4 @@ pub fn cells_of(alloc: Global, words: &str) -> Result<Vec<Cell>, Fail> {
         cells.push(cell_of(alloc, word)?)?;
     }
     Ok(cells)
-}
-
-fn add_cell(out: &mut String, cell: &Cell) -> Result<(), Fail> {
-    match cell {
-        Cell::Null => out.push_str("-")?,
-        Cell::Int(number) => write!(out, "{number}")?,
-        Cell::Text(text) => write!(out, "'{}", text.text())?,
-        Cell::Truth(false) => out.push_str("no")?,
-        Cell::Truth(true) => out.push_str("yes")?,
-    }
-    Ok(())
-}
-
-/// The words of the cells, each behind a space.
-pub fn add_cells(out: &mut String, cells: &[Cell]) -> Result<(), Fail> {
-    for cell in cells {
-        out.push_str(" ")?;
-        add_cell(out, cell)?;
-    }
-    Ok(())
 }

@@ -1,49 +1,34 @@
-//! What write sets and batches say, as texts.
-use crate::words::add_cells;
-use geo_base::{Cell, Key, RowId, RowImage};
+//! Changes of rows, made from words and written as texts.
+use geo_base::{Cell, Key, NoMemory, RowId, RowImage};
 use std::alloc::Global;
 use std::fmt::Write;
 use std::test::Fail;
-use write_set::{Batch, Change, RowChange, WriteSet};
+use write_set::{Change, RowChange};
 
-fn add_name(out: &mut String, row: &RowId) -> Result<(), Fail> {
-    write!(out, "; {}", row.table)?;
-    add_cells(out, row.key.cells())
+/// The row's name: its table, and its key as a row.
+pub fn add_name(out: &mut String, row: &RowId) -> Result<(), Fail> {
+    write!(out, "{}", row.table)?;
+    Ok(print_row(out, row.key.cells())?)
 }
 
-/// The row behind `; `: the table, the key and the image.
+/// The row behind `; `: its name and its image, as `0(7) -> (7, NULL)`.
 pub fn add_row(out: &mut String, row: &RowId, image: &RowImage) -> Result<(), Fail> {
+    out.push_str("; ")?;
     add_name(out, row)?;
-    out.push_str(" ->")?;
-    add_cells(out, image.cells())
+    out.push_str(" -> ")?;
+    Ok(print_row(out, image.cells())?)
 }
 
-/// The change behind `; `: a row as by [`add_row`], or the table and the key of one that is removed.
+/// The change behind `; `: a row as by [`add_row`], or the name of one that is removed.
 pub fn add_change(out: &mut String, row: &RowId, change: &Change) -> Result<(), Fail> {
     match change {
         Change::Put(image) => add_row(out, row, image),
         Change::Remove => {
+            out.push_str("; ")?;
             add_name(out, row)?;
             Ok(out.push_str(" removed")?)
         }
     }
-}
-
-fn add_changes(out: &mut String, set: &WriteSet) -> Result<(), Fail> {
-    for (row, change) in set.changes() {
-        add_change(out, row, change)?;
-    }
-    Ok(())
-}
-
-/// The batch, with a line for each candidate.
-pub fn batch_text(alloc: Global, batch: &Batch) -> Result<String, Fail> {
-    let mut out = format!(in alloc; "region {} epoch {}", batch.region, batch.epoch)?;
-    for candidate in batch.items.items() {
-        write!(out, "\nstart {}", candidate.start)?;
-        add_changes(&mut out, &candidate.set)?;
-    }
-    Ok(out)
 }
 
 /// The row of table 0 whose key is the number.
@@ -90,4 +75,23 @@ pub fn row_changes_of(alloc: Global, words: &str) -> Result<Vec<RowChange>, Fail
         changes.push(row_change_of(alloc, word)?)?;
     }
     Ok(changes)
+}
+
+// Until geo_base's stands below.
+fn print_row(out: &mut String, cells: &[Cell]) -> Result<(), NoMemory> {
+    out.push_str("(")?;
+    for (place, cell) in cells.iter().enumerate() {
+        if place > 0 {
+            out.push_str(", ")?;
+        }
+        match cell {
+            Cell::Null => out.push_str("NULL")?,
+            Cell::Int(number) => write!(out, "{number}")?,
+            Cell::Text(text) => write!(out, "'{}'", text.text())?,
+            Cell::Truth(true) => out.push_str("TRUE")?,
+            Cell::Truth(false) => out.push_str("FALSE")?,
+        }
+    }
+    out.push_str(")")?;
+    Ok(())
 }

@@ -57,18 +57,18 @@ const NETS: [(&str, &str, &str, u64); 6] = [
     // No change.
     ("", "", "; end", 0),
     // Put over put.
-    ("", "+1=10 +1=11", "; 0 1 -> 1 11; end", 20),
+    ("", "+1=10 +1=11", "; 0(1) -> (1, 11); end", 20),
     // Put and then removed, of a row that the snapshot has, and of one that it lacks.
-    ("", "1=10 +2=20 1 +2", "; 0 1 removed; end", 11),
+    ("", "1=10 +2=20 1 +2", "; 0(1) removed; end", 11),
     // Removed and then put.
-    ("", "1 1=12 +2", "; 0 1 -> 1 12; end", 20),
+    ("", "1 1=12 +2", "; 0(1) -> (1, 12); end", 20),
     // Put by the set, and removed behind it, of a row that the snapshot lacks.
     ("+1=10", "+1", "; end", 0),
     // A row of the set is removed, another one is put again, and new ones stand between and behind them.
     (
         "5=50 +1=10 3",
         "9 +1 5=51 +4=40",
-        "; 0 3 removed; 0 4 -> 4 40; 0 5 -> 5 51; 0 9 removed; end",
+        "; 0(3) removed; 0(4) -> (4, 40); 0(5) -> (5, 51); 0(9) removed; end",
         62,
     ),
 ];
@@ -145,6 +145,6 @@ fn is_copied(alloc: Global, changes: &str, text: &str) -> Result<bool, Fail> {
 
 #[test]
 fn a_record_is_copied(rt: HostRuntime) -> Result<(), Fail> {
-    assert!(rt; is_copied(rt.alloc(), "1 2=20", "; 0 1 removed; 0 2 -> 2 20; end")?);
+    assert!(rt; is_copied(rt.alloc(), "1 2=20", "; 0(1) removed; 0(2) -> (2, 20); end")?);
     Ok(())
 }

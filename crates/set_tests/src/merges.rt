@@ -2,8 +2,7 @@
 ghost use Rattle.std.specs.Prelude.{◌≡◌, IsTrue, IfOk, IfSome};
 ghost use Rattle.write_set.specs.Journal.{IsCandidate, IsBatch};
 
-use crate::changes::{add_row, change_of, row_changes_of, row_of};
-use crate::words::add_cells;
+use crate::changes::{add_name, add_row, change_of, row_changes_of, row_of};
 use geo_base::limits::{MAX_AGE, MAX_CANDIDATES};
 use geo_base::{Duplicate, Epoch, Outcome, RegionNo};
 use std::alloc::Global;
@@ -76,13 +75,13 @@ fn add_outcome(out: &mut String, outcome: &Outcome) -> Result<(), Fail> {
     match outcome {
         Outcome::Committed => out.push_str("; committed")?,
         Outcome::Changed(row, epoch) => {
-            write!(out, "; changed {}", row.table)?;
-            add_cells(out, row.key.cells())?;
+            out.push_str("; changed ")?;
+            add_name(out, row)?;
             write!(out, " in {epoch}")?;
         }
         Outcome::Beaten(row, winner) => {
-            write!(out, "; beaten {}", row.table)?;
-            add_cells(out, row.key.cells())?;
+            out.push_str("; beaten ")?;
+            add_name(out, row)?;
             write!(out, " by {}.{}.{}", winner.epoch, winner.region, winner.csn)?;
         }
     }
@@ -167,46 +166,55 @@ fn has_rows(alloc: Global, plain: &Plain, text: &str) -> Result<bool, Fail> {
     Ok(places.as_str() == text && names.as_str() == text)
 }
 
-/// Whether three epochs of two regions tell the candidates what they are to be told, and leave these rows.
-fn is_followed(alloc: Global, cases: &[Case], rows: &str) -> Result<bool, Fail> {
+/// Merges the epochs up to the last, and says whether all candidates are told what they are to be told.
+fn are_told(alloc: Global, plain: &mut Plain, last: Epoch, cases: &[Case]) -> Result<bool, Fail>
+    requires { plain.old.regions ≡ 2 }
+{
+    for epoch in 1..=last {
+        if !is_told(alloc, plain, epoch, cases)? {
+            return Ok(false);
+        }
+    }
+    Ok(true)
+}
+
+/// Whether so many epochs of two regions tell the candidates what they are to be told, and leave these rows.
+fn is_followed(alloc: Global, last: Epoch, cases: &[Case], rows: &str) -> Result<bool, Fail> {
     let mut plain = Plain::empty(alloc, 2);
-    let first = is_told(alloc, &mut plain, 1, cases)?;
-    let second = is_told(alloc, &mut plain, 2, cases)?;
-    let third = is_told(alloc, &mut plain, 3, cases)?;
-    Ok(first && second && third && has_rows(alloc, &plain, rows)?)
+    Ok(are_told(alloc, &mut plain, last, cases)? && has_rows(alloc, &plain, rows)?)
 }
 
 #[test]
 fn the_best_of_an_epoch_wins(rt: HostRuntime) -> Result<(), Fail> {
     let later_start: [Case; 3] = [
         (1, 0, 0, "1=10", "committed"),
-        (3, 0, 1, "1=11", "beaten 0 1 by 3.0.1"),
+        (3, 0, 1, "1=11", "beaten 0(1) by 3.0.1"),
         (3, 0, 2, "1=12", "committed"),
     ];
     let number_before_region: [Case; 3] = [
         (1, 0, 0, "9=9", "committed"),
-        (1, 0, 0, "1=10", "beaten 0 1 by 1.1.0"),
+        (1, 0, 0, "1=10", "beaten 0(1) by 1.1.0"),
         (1, 1, 0, "1=20", "committed"),
     ];
     let lesser_region: [Case; 2] = [
         (1, 0, 0, "1=10", "committed"),
-        (1, 1, 0, "1=20", "beaten 0 1 by 1.0.0"),
+        (1, 1, 0, "1=20", "beaten 0(1) by 1.0.0"),
     ];
     let beaten_by_a_loser: [Case; 3] = [
         (1, 0, 0, "1=1", "committed"),
-        (1, 0, 0, "1=2 2=2", "beaten 0 1 by 1.0.0"),
-        (1, 0, 0, "2=3", "beaten 0 2 by 1.0.1"),
+        (1, 0, 0, "1=2 2=2", "beaten 0(1) by 1.0.0"),
+        (1, 0, 0, "2=3", "beaten 0(2) by 1.0.1"),
     ];
     for (cases, rows) in [
-        (later_start.as_slice(), "; 0 1 -> 1 12; end"),
+        (later_start.as_slice(), "; 0(1) -> (1, 12); end"),
         (
             number_before_region.as_slice(),
-            "; 0 1 -> 1 20; 0 9 -> 9 9; end",
+            "; 0(1) -> (1, 20); 0(9) -> (9, 9); end",
         ),
-        (lesser_region.as_slice(), "; 0 1 -> 1 10; end"),
-        (beaten_by_a_loser.as_slice(), "; 0 1 -> 1 1; end"),
+        (lesser_region.as_slice(), "; 0(1) -> (1, 10); end"),
+        (beaten_by_a_loser.as_slice(), "; 0(1) -> (1, 1); end"),
     ] {
-        assert!(rt; is_followed(rt.alloc(), cases, rows)?, "{rows}");
+        assert!(rt; is_followed(rt.alloc(), 3, cases, rows)?, "{rows}");
     }
     Ok(())
 }
@@ -216,7 +224,7 @@ fn a_change_after_the_start_aborts(rt: HostRuntime) -> Result<(), Fail> {
     let changed_since: [Case; 3] = [
         (1, 0, 0, "1=10", "committed"),
         (2, 0, 1, "1=12", "committed"),
-        (3, 0, 1, "1=11", "changed 0 1 in 2"),
+        (3, 0, 1, "1=11", "changed 0(1) in 2"),
     ];
     let changed_at_the_start: [Case; 3] = [
         (1, 0, 0, "1=10", "committed"),
@@ -226,15 +234,36 @@ fn a_change_after_the_start_aborts(rt: HostRuntime) -> Result<(), Fail> {
     let removed: [Case; 4] = [
         (1, 0, 0, "1=10 2=20", "committed"),
         (2, 1, 1, "1", "committed"),
-        (3, 0, 1, "1=11", "changed 0 1 in 2"),
+        (3, 0, 1, "1=11", "changed 0(1) in 2"),
         (3, 1, 2, "2=21 3", "committed"),
     ];
     for (cases, rows) in [
-        (changed_since.as_slice(), "; 0 1 -> 1 12; end"),
-        (changed_at_the_start.as_slice(), "; 0 1 -> 1 12; end"),
-        (removed.as_slice(), "; 0 2 -> 2 21; end"),
+        (changed_since.as_slice(), "; 0(1) -> (1, 12); end"),
+        (changed_at_the_start.as_slice(), "; 0(1) -> (1, 12); end"),
+        (removed.as_slice(), "; 0(2) -> (2, 21); end"),
     ] {
-        assert!(rt; is_followed(rt.alloc(), cases, rows)?, "{rows}");
+        assert!(rt; is_followed(rt.alloc(), 3, cases, rows)?, "{rows}");
+    }
+    Ok(())
+}
+
+/// A candidate of the greatest age, and a change just behind its start.
+#[test]
+fn candidates_are_up_to_64_epochs_old(rt: HostRuntime) -> Result<(), Fail> {
+    let unchanged: [Case; 2] = [
+        (1, 0, 0, "1=10", "committed"),
+        (65, 0, 1, "1=11", "committed"),
+    ];
+    let changed: [Case; 3] = [
+        (1, 0, 0, "1=10", "committed"),
+        (2, 1, 1, "1=12", "committed"),
+        (65, 0, 1, "1=11", "changed 0(1) in 2"),
+    ];
+    for (cases, rows) in [
+        (unchanged.as_slice(), "; 0(1) -> (1, 11); end"),
+        (changed.as_slice(), "; 0(1) -> (1, 12); end"),
+    ] {
+        assert!(rt; is_followed(rt.alloc(), 65, cases, rows)?, "{rows}");
     }
     Ok(())
 }
