@@ -1,47 +1,56 @@
-//! Whether what was built may be spelled: each cell is tested against its column.
-ghost use Rattle.std.specs.Prelude.{◌≡◌, ◌≤◌, IsTrue, length};
-ghost use Rattle.std.specs.List.{All};
-ghost use Rattle.geo_base.specs.declared.limits.TheConstants.{MAX_REGIONS, MAX_SET_BYTES, MAX_BATCH_BYTES};
-ghost use Rattle.geo_schema.specs.Schemas.{IsSchema};
-ghost use Rattle.write_set.specs.Journal.{IsCandidate, IsBatch};
-ghost use Rattle.set_codec.specs.Fits.{FitPlaces, FitsTable, FitsTables, FitsSchema};
-ghost use Rattle.set_codec.specs.Spelling.{changes_spelling, batch_spelling};
+//! Whether a batch that was built fits a schema, so that it may be spelled.
+ghost use Rattle.std.specs.Prelude.{◌≡◌, ◌+◌, ◌<◌, ◌≤◌, IsTrue, length, slice_index};
+ghost use Rattle.write_set.specs.Journal.{IsCandidate};
+ghost use Rattle.geo_schema.specs.Schemas.{table_at};
+ghost use Rattle.set_codec.specs.Fits.{AreTaken, FitsKey, FitsChange, FitsTable, FitsTables, FitsSchema};
 
 use geo_base::limits::{
     LAST_EPOCH, MAX_AGE, MAX_BATCH_BYTES, MAX_CANDIDATES, MAX_REGIONS, MAX_SET_BYTES,
 };
-use geo_base::{Cell, Epoch, RowId, equal_values_are_one};
+use geo_base::{Cell, Epoch, Key, RowId, equal_values_are_one};
 use geo_schema::{Schema, TableDef, cell_fault};
 use set_codec::{batch_size, size_is_length};
 use std::alloc::Global;
 use write_set::{Batch, Candidate, Change};
 
-fn fit_places(table: &TableDef, places: &[u8], cells: &[Cell]) -> bool
-    ensures { IsTrue result → FitPlaces table.now places.now cells.now }
+// Whether the cells are taken by the columns at the key's places from this one on.
+fn are_taken(table: &TableDef, from: usize, cells: &[Cell]) -> bool
+    requires { from + length cells.now ≡ length table.now.key }
+    ensures { IsTrue result → AreTaken table.now (slice_index table.now.key) from cells.now }
 {
-    match (places, cells) {
-        ([], []) => true,
-        ([place, places @ ..], [cell, cells @ ..]) => {
-            let Some(column) = table.columns.items().get(*place as usize) else {
-                return false;
-            };
-            cell_fault(table.key.items(), column, *place, cell).is_none()
-                && fit_places(table, places, cells)
-        }
-        _ => false,
-    }
+    let [cell, rest @ ..] = cells else {
+        return true;
+    };
+    let key = table.key.items();
+    let place = key[from];
+    let Some(column) = table.columns.items().get(place as usize) else {
+        return false;
+    };
+    cell_fault(key, column, place, cell).is_none() && are_taken(table, from + 1, rest)
 }
 
-/// Whether the row that is put is one of the table with the key.
+fn fits_key(table: &TableDef, key: &Key) -> bool
+    ensures { IsTrue result → FitsKey table.now key.now }
+{
+    let cells = key.cells();
+    cells.len() == table.key.items().len() && are_taken(table, 0, cells)
+}
+
+// Whether what is put is a row of the table with the key.
 fn fits_change(alloc: Global, schema: &Schema, row: &RowId, change: &Change) -> bool
     requires { row.now.table < length schema.now }
+    ensures { IsTrue result → FitsChange (table_at schema.now row.now.table) row.now.key change.now }
 {
+    equal_values_are_one();
     match change {
         Change::Put(image) => {
-            schema.check_row(row.table, image.cells()).is_ok()
-                && schema
-                    .key_of(alloc, row.table, image)
-                    .is_ok_and(|key| key == row.key)
+            if schema.check_row(row.table, image.cells()).is_err() {
+                return false;
+            }
+            match schema.key_of(alloc, row.table, image) {
+                Ok(key) => key == row.key,
+                Err(_) => false,
+            }
         }
         Change::Remove => true,
     }
@@ -53,28 +62,27 @@ fn fits_table(alloc: Global, schema: &Schema, row: &RowId, change: &Change) -> b
     let Some(table) = schema.table(row.table) else {
         return false;
     };
-    fit_places(table, table.key.items(), row.key.cells()) && fits_change(alloc, schema, row, change)
+    fits_key(table, &row.key) && fits_change(alloc, schema, row, change)
 }
 
-fn is_lawful(epoch: Epoch, c: &Candidate) -> bool
-    ensures { IsTrue result → IsCandidate epoch c.now }
-{
-    let changes = c.set.changes();
-    c.start < epoch && epoch - c.start <= MAX_AGE && !changes.is_empty()
-}
-
-fn fits_tables(alloc: Global, schema: &Schema, c: &Candidate) -> bool
-    ensures { IsTrue result → FitsTables schema.now c.now }
+fn fits_tables(alloc: Global, schema: &Schema, candidate: &Candidate) -> bool
+    ensures { IsTrue result → FitsTables schema.now candidate.now }
 {
     size_is_length();
-    c.set
-        .changes()
-        .iter()
-        .all(|change| fits_table(alloc, schema, &change.0, &change.1))
-        && c.set.size() <= MAX_SET_BYTES
+    let changes = candidate.set.changes();
+    changes.iter().all(|change| fits_table(alloc, schema, &change.0, &change.1))
+        && candidate.set.size() <= MAX_SET_BYTES
 }
 
-/// Whether the batch fits the schema, so that it may be spelled.
+fn is_lawful(epoch: Epoch, candidate: &Candidate) -> bool
+    ensures { IsTrue result → IsCandidate epoch candidate.now }
+{
+    let changes = candidate.set.changes();
+    let start = candidate.start;
+    start < epoch && epoch - start <= MAX_AGE && !changes.is_empty()
+}
+
+/// Whether the batch fits the schema.
 pub fn fits(alloc: Global, schema: &Schema, batch: &Batch) -> bool
     ensures { IsTrue result → FitsSchema schema.now batch.now }
 {
@@ -84,7 +92,7 @@ pub fn fits(alloc: Global, schema: &Schema, batch: &Batch) -> bool
         && batch.epoch > 0
         && batch.epoch < LAST_EPOCH
         && items.len() <= MAX_CANDIDATES as usize
-        && items.iter().all(|c| is_lawful(batch.epoch, c))
-        && items.iter().all(|c| fits_tables(alloc, schema, c))
+        && items.iter().all(|candidate| is_lawful(batch.epoch, candidate))
+        && items.iter().all(|candidate| fits_tables(alloc, schema, candidate))
         && batch_size(batch) <= MAX_BATCH_BYTES
 }

@@ -1,5 +1,5 @@
 //! What a batch says, as a text.
-use geo_base::{Cell, NoMemory};
+use geo_base::print_row;
 use std::alloc::Global;
 use std::fmt::Write;
 use std::test::Fail;
@@ -29,23 +29,4 @@ pub fn batch_text(alloc: Global, batch: &Batch) -> Result<String, Fail> {
         add_changes(&mut out, &candidate.set)?;
     }
     Ok(out)
-}
-
-// Until geo_base's stands below.
-fn print_row(out: &mut String, cells: &[Cell]) -> Result<(), NoMemory> {
-    out.push_str("(")?;
-    for (place, cell) in cells.iter().enumerate() {
-        if place > 0 {
-            out.push_str(", ")?;
-        }
-        match cell {
-            Cell::Null => out.push_str("NULL")?,
-            Cell::Int(number) => write!(out, "{number}")?,
-            Cell::Text(text) => write!(out, "'{}'", text.text())?,
-            Cell::Truth(true) => out.push_str("TRUE")?,
-            Cell::Truth(false) => out.push_str("FALSE")?,
-        }
-    }
-    out.push_str(")")?;
-    Ok(())
 }

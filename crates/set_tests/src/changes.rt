@@ -1,5 +1,5 @@
 //! Changes of rows, made from words and written as texts.
-use geo_base::{Cell, Key, NoMemory, RowId, RowImage};
+use geo_base::{Cell, Key, RowId, RowImage, print_row};
 use std::alloc::Global;
 use std::fmt::Write;
 use std::test::Fail;
@@ -75,23 +75,4 @@ pub fn row_changes_of(alloc: Global, words: &str) -> Result<Vec<RowChange>, Fail
         changes.push(row_change_of(alloc, word)?)?;
     }
     Ok(changes)
-}
-
-// Until geo_base's stands below.
-fn print_row(out: &mut String, cells: &[Cell]) -> Result<(), NoMemory> {
-    out.push_str("(")?;
-    for (place, cell) in cells.iter().enumerate() {
-        if place > 0 {
-            out.push_str(", ")?;
-        }
-        match cell {
-            Cell::Null => out.push_str("NULL")?,
-            Cell::Int(number) => write!(out, "{number}")?,
-            Cell::Text(text) => write!(out, "'{}'", text.text())?,
-            Cell::Truth(true) => out.push_str("TRUE")?,
-            Cell::Truth(false) => out.push_str("FALSE")?,
-        }
-    }
-    out.push_str(")")?;
-    Ok(())
 }

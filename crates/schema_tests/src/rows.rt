@@ -1,6 +1,6 @@
 //! Rows of tables: their faults, their keys, and the ranges that these lie in.
+use crate::cells::cells_of;
 use crate::tables::schema_of;
-use crate::words::cells_of;
 use geo_base::{Duplicate, RowImage, TableNo, Txt};
 use geo_schema::{CellFault, CellList, Edge, KeyRange, Schema};
 use std::alloc::Global;
