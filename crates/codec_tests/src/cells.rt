@@ -3,8 +3,7 @@ use geo_base::{Cell, Txt};
 use std::alloc::Global;
 use std::test::Fail;
 
-/// The cell of a word.
-pub fn cell_of(alloc: Global, word: &str) -> Result<Cell, Fail> {
+fn cell_of(alloc: Global, word: &str) -> Result<Cell, Fail> {
     match word {
         "-" => Ok(Cell::Null),
         "no" => Ok(Cell::Truth(false)),

@@ -1,6 +1,6 @@
-//! Tests of cells, batches and packets as bytes.
+//! Tests of batches and packets as bytes.
 //!
-//! They use only what `row_codec` and `set_codec` offer, and make their schemas by reading scripts. What is
+//! They use only what `set_codec` offers, and make their schemas by reading scripts. What is
 //! wanted is worked by hand from the forms of the bytes.
 #![tactic(auto)]
 
@@ -10,8 +10,6 @@ mod batches;
 mod built;
 #[cfg(test)]
 mod bytes;
-#[cfg(test)]
-mod cell_bytes;
 #[cfg(test)]
 mod cells;
 #[cfg(test)]
