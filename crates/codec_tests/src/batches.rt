@@ -1,6 +1,6 @@
 //! Batches as bytes: one worked batch, faults with their places, limits, and bytes of any kind.
 use crate::bytes::bytes_of;
-use crate::printing::batch_text;
+use crate::printing::{batch_text, is_answer};
 use crate::tables::{schema_of, two_tables};
 use geo_schema::Schema;
 use set_codec::{CodecFault, Limit, batch_bytes, batch_size, read_batch};
@@ -44,200 +44,82 @@ fn a_batch_has_its_spelling(rt: HostRuntime) -> Result<(), Fail> {
     Ok(())
 }
 
-/// What bytes are told that are to be a batch of the schema.
-fn told_by(
-    alloc: Global,
-    schema: &Schema,
-    regions: u8,
-    words: &str,
-) -> Result<Option<CodecFault>, Fail> {
-    let bytes = bytes_of(alloc, words)?;
-    Ok(read_batch(alloc, schema, regions, &bytes).err())
+fn schema_named(alloc: Global, name: &str) -> Result<Schema, Fail> {
+    match name {
+        "numbers" => schema_of(alloc, NUMBERS),
+        "texts" => schema_of(alloc, TEXTS),
+        "narrow" => schema_of(alloc, NARROW),
+        _ => two_tables(alloc),
+    }
 }
 
 /// What bytes are told that are to be a batch of the tables.
 fn told(alloc: Global, tables: &str, regions: u8, words: &str) -> Result<Option<CodecFault>, Fail> {
-    let schema = schema_of(alloc, tables)?;
-    told_by(alloc, &schema, regions, words)
+    let schema = schema_named(alloc, tables)?;
+    let bytes = bytes_of(alloc, words)?;
+    Ok(read_batch(alloc, &schema, regions, &bytes).err())
 }
 
-/// Batches of the table of numbers for so many regions, and what they are told.
-const OF_NUMBERS: [(u8, &str, Option<CodecFault>); 33] = [
-    (1, "GGB1 0 #1 #1 #0 #1 0 1 @1 @10", None),
-    (1, "GGB1 0 #1 #0", None),
-    (1, "72 71 66 49 0 #1 #0", Some(CodecFault::BadTag(0))),
-    (1, "GGB1 1 #1 #0", Some(CodecFault::BadTag(4))),
-    (8, "GGB1 7 #1 #0", None),
-    (8, "GGB1 8 #1 #0", Some(CodecFault::BadTag(4))),
-    (1, "GGB1 0 #0 #0", Some(CodecFault::BadTag(5))),
-    (1, "GGB1 0 #4294967293 #0", None),
-    (1, "GGB1 0 #4294967294 #0", Some(CodecFault::BadTag(5))),
-    (1, "GGB1 0 #1 #4096", Some(CodecFault::Short(13))),
-    (
-        1,
-        "GGB1 0 #1 #4097",
-        Some(CodecFault::OverLimit(9, Limit::Candidates)),
-    ),
-    (
-        1,
-        "GGB1 0 #1 #1 #1 #1 0 2 @1",
-        Some(CodecFault::BadStart(13)),
-    ),
-    (1, "GGB1 0 #64 #1 #0 #1 0 2 @1", None),
-    (
-        1,
-        "GGB1 0 #65 #1 #0 #1 0 2 @1",
-        Some(CodecFault::BadStart(13)),
-    ),
-    (1, "GGB1 0 #65 #1 #1 #1 0 2 @1", None),
-    (
-        1,
-        "GGB1 0 #1 #1 #0 #0",
-        Some(CodecFault::OverLimit(17, Limit::Rows)),
-    ),
-    (1, "GGB1 0 #1 #1 #0 #1024", Some(CodecFault::Short(21))),
-    (
-        1,
-        "GGB1 0 #1 #1 #0 #1025",
-        Some(CodecFault::OverLimit(17, Limit::Rows)),
-    ),
-    (
-        1,
-        "GGB1 0 #1 #1 #0 #1 1 1 @1 @10",
-        Some(CodecFault::BadRow(21)),
-    ),
-    (
-        1,
-        "GGB1 0 #1 #1 #0 #1 0 0 @1 @10",
-        Some(CodecFault::BadTag(22)),
-    ),
-    (
-        1,
-        "GGB1 0 #1 #1 #0 #1 0 3 @1 @10",
-        Some(CodecFault::BadTag(22)),
-    ),
-    (
-        1,
-        "GGB1 0 #1 #1 #0 #1 0 1 0 @10",
-        Some(CodecFault::BadRow(23)),
-    ),
-    (
-        1,
-        "GGB1 0 #1 #1 #0 #1 0 1 3 @10",
-        Some(CodecFault::BadRow(23)),
-    ),
-    (
-        1,
-        "GGB1 0 #1 #1 #0 #1 0 1 5 @10",
-        Some(CodecFault::BadTag(23)),
-    ),
-    (1, "GGB1 0 #1 #1 #0 #1 0 1 @1 0", None),
-    (
-        1,
-        "GGB1 0 #1 #1 #0 #1 0 1 @1 0 10",
-        Some(CodecFault::Trailing(33)),
-    ),
-    (
-        1,
-        "GGB1 0 #1 #1 #0 #1 0 1 @1 2 0 1 97",
-        Some(CodecFault::BadRow(32)),
-    ),
-    (
-        1,
-        "GGB1 0 #1 #1 #0 #1 0 1 @1 2 0 1 255",
-        Some(CodecFault::BadUtf8(35)),
-    ),
-    (1, "GGB1 0 #1 #1 #0 #2 0 2 @1 0 2 @2", None),
-    (
-        1,
-        "GGB1 0 #1 #1 #0 #2 0 2 @1 0 2 @1",
-        Some(CodecFault::NotOrdered(32)),
-    ),
-    (
-        1,
-        "GGB1 0 #1 #1 #0 #2 0 2 @2 0 2 @1",
-        Some(CodecFault::NotOrdered(32)),
-    ),
-    (1, "GGB1 0 #1 #1 #0 #1 0 2 0", Some(CodecFault::BadRow(23))),
-    (
-        1,
-        "GGB1 0 #1 #2 #0 #1 0 2 @1 #1",
-        Some(CodecFault::BadStart(32)),
-    ),
-];
+/// The tables, the number of regions, bytes, and what these are told. The order of a change is tested behind
+/// its key, and before its other cells.
+const TOLD: &str = "\
+numbers 1 GGB1 0 #1 #1 #0 #1 0 1 @1 @10 => fits
+numbers 1 GGB1 0 #1 #0 => fits
+numbers 1 72 71 66 49 0 #1 #0 => BadTag(0)
+numbers 1 GGB1 1 #1 #0 => BadTag(4)
+numbers 8 GGB1 7 #1 #0 => fits
+numbers 8 GGB1 8 #1 #0 => BadTag(4)
+numbers 1 GGB1 0 #0 #0 => BadTag(5)
+numbers 1 GGB1 0 #4294967293 #0 => fits
+numbers 1 GGB1 0 #4294967294 #0 => BadTag(5)
+numbers 1 GGB1 0 #1 #4096 => Short(13)
+numbers 1 GGB1 0 #1 #4097 => OverLimit(9, Candidates)
+numbers 1 GGB1 0 #1 #1 #1 #1 0 2 @1 => BadStart(13)
+numbers 1 GGB1 0 #64 #1 #0 #1 0 2 @1 => fits
+numbers 1 GGB1 0 #65 #1 #0 #1 0 2 @1 => BadStart(13)
+numbers 1 GGB1 0 #65 #1 #1 #1 0 2 @1 => fits
+numbers 1 GGB1 0 #1 #1 #0 #0 => OverLimit(17, Rows)
+numbers 1 GGB1 0 #1 #1 #0 #1024 => Short(21)
+numbers 1 GGB1 0 #1 #1 #0 #1025 => OverLimit(17, Rows)
+numbers 1 GGB1 0 #1 #1 #0 #1 1 1 @1 @10 => BadRow(21)
+numbers 1 GGB1 0 #1 #1 #0 #1 0 0 @1 @10 => BadTag(22)
+numbers 1 GGB1 0 #1 #1 #0 #1 0 3 @1 @10 => BadTag(22)
+numbers 1 GGB1 0 #1 #1 #0 #1 0 1 0 @10 => BadRow(23)
+numbers 1 GGB1 0 #1 #1 #0 #1 0 1 3 @10 => BadRow(23)
+numbers 1 GGB1 0 #1 #1 #0 #1 0 1 5 @10 => BadTag(23)
+numbers 1 GGB1 0 #1 #1 #0 #1 0 1 @1 0 => fits
+numbers 1 GGB1 0 #1 #1 #0 #1 0 1 @1 0 10 => Trailing(33)
+numbers 1 GGB1 0 #1 #1 #0 #1 0 1 @1 2 0 1 97 => BadRow(32)
+numbers 1 GGB1 0 #1 #1 #0 #1 0 1 @1 2 0 1 255 => BadUtf8(35)
+numbers 1 GGB1 0 #1 #1 #0 #2 0 2 @1 0 2 @2 => fits
+numbers 1 GGB1 0 #1 #1 #0 #2 0 2 @1 0 2 @1 => NotOrdered(32)
+numbers 1 GGB1 0 #1 #1 #0 #2 0 2 @2 0 2 @1 => NotOrdered(32)
+numbers 1 GGB1 0 #1 #1 #0 #1 0 2 0 => BadRow(23)
+numbers 1 GGB1 0 #1 #2 #0 #1 0 2 @1 #1 => BadStart(32)
+texts 1 GGB1 0 #1 #1 #0 #1 0 1 @1 2 0 1 97 => fits
+texts 1 GGB1 0 #1 #1 #0 #1 0 1 @1 2 0 1 255 => BadUtf8(35)
+texts 1 GGB1 0 #1 #1 #0 #1 0 1 @1 2 4 1 => OverLimit(33, TextBytes)
+narrow 1 GGB1 0 #1 #1 #0 #1 0 1 @1 @10 2 0 8 97 97 97 97 97 97 97 97 => fits
+narrow 1 GGB1 0 #1 #1 #0 #1 0 1 @1 @10 2 0 9 97 97 97 97 97 97 97 97 97 => BadRow(41)
+narrow 1 GGB1 0 #1 #1 #0 #1 0 1 @1 @10 0 => fits
+narrow 1 GGB1 0 #1 #1 #0 #1 0 1 @1 0 0 => BadRow(32)
+two 1 GGB1 0 #1 #1 #0 #2 0 2 @1 1 2 @1 2 0 1 97 => fits
+two 1 GGB1 0 #1 #1 #0 #2 1 2 @1 2 0 1 97 0 2 @1 => NotOrdered(36)
+two 1 GGB1 0 #1 #1 #0 #2 1 2 @1 2 0 1 97 0 2 0 => BadRow(38)
+two 1 GGB1 0 #1 #1 #0 #2 1 2 @1 2 0 1 97 0 1 @1 5 => NotOrdered(36)";
 
-#[test]
-fn batches_of_numbers(rt: HostRuntime) -> Result<(), Fail> {
-    for (regions, words, fault) in OF_NUMBERS {
-        assert_eq!(rt;
-            told(rt.alloc(), NUMBERS, regions, words)?,
-            fault,
-            "{words}"
-        );
-    }
-    Ok(())
+fn is_told(alloc: Global, line: &str) -> Result<bool, Fail> {
+    let (bytes, want) = line.split_once(" => ").ok_or("a line without an answer")?;
+    let (tables, bytes) = bytes.split_once(' ').ok_or("a line without tables")?;
+    let (regions, words) = bytes.split_once(' ').ok_or("a line without regions")?;
+    let told = told(alloc, tables, regions.parse()?, words)?;
+    is_answer(alloc, told, want)
 }
 
 #[test]
-fn batches_of_texts(rt: HostRuntime) -> Result<(), Fail> {
-    for (words, fault) in [
-        ("GGB1 0 #1 #1 #0 #1 0 1 @1 2 0 1 97", None),
-        (
-            "GGB1 0 #1 #1 #0 #1 0 1 @1 2 0 1 255",
-            Some(CodecFault::BadUtf8(35)),
-        ),
-        (
-            "GGB1 0 #1 #1 #0 #1 0 1 @1 2 4 1",
-            Some(CodecFault::OverLimit(33, Limit::TextBytes)),
-        ),
-    ] {
-        assert_eq!(rt; told(rt.alloc(), TEXTS, 1, words)?, fault, "{words}");
-    }
-    Ok(())
-}
-
-#[test]
-fn columns_refuse_nulls_and_long_texts(rt: HostRuntime) -> Result<(), Fail> {
-    for (words, fault) in [
-        (
-            "GGB1 0 #1 #1 #0 #1 0 1 @1 @10 2 0 8 97 97 97 97 97 97 97 97",
-            None,
-        ),
-        (
-            "GGB1 0 #1 #1 #0 #1 0 1 @1 @10 2 0 9 97 97 97 97 97 97 97 97 97",
-            Some(CodecFault::BadRow(41)),
-        ),
-        ("GGB1 0 #1 #1 #0 #1 0 1 @1 @10 0", None),
-        (
-            "GGB1 0 #1 #1 #0 #1 0 1 @1 0 0",
-            Some(CodecFault::BadRow(32)),
-        ),
-    ] {
-        assert_eq!(rt; told(rt.alloc(), NARROW, 1, words)?, fault, "{words}");
-    }
-    Ok(())
-}
-
-/// The order of a change is tested behind its key, and before its other cells.
-#[test]
-fn batches_of_two_tables(rt: HostRuntime) -> Result<(), Fail> {
-    let schema = two_tables(rt.alloc())?;
-    for (words, fault) in [
-        ("GGB1 0 #1 #1 #0 #2 0 2 @1 1 2 @1 2 0 1 97", None),
-        (
-            "GGB1 0 #1 #1 #0 #2 1 2 @1 2 0 1 97 0 2 @1",
-            Some(CodecFault::NotOrdered(36)),
-        ),
-        (
-            "GGB1 0 #1 #1 #0 #2 1 2 @1 2 0 1 97 0 2 0",
-            Some(CodecFault::BadRow(38)),
-        ),
-        (
-            "GGB1 0 #1 #1 #0 #2 1 2 @1 2 0 1 97 0 1 @1 5",
-            Some(CodecFault::NotOrdered(36)),
-        ),
-    ] {
-        assert_eq!(rt; told_by(rt.alloc(), &schema, 1, words)?, fault, "{words}");
+fn bytes_of_batches_are_told(rt: HostRuntime) -> Result<(), Fail> {
+    for line in TOLD.lines() {
+        assert!(rt; is_told(rt.alloc(), line)?, "{line}");
     }
     Ok(())
 }
@@ -246,7 +128,7 @@ fn batches_of_two_tables(rt: HostRuntime) -> Result<(), Fail> {
 fn told_of_many(alloc: Global, count: usize) -> Result<Option<CodecFault>, Fail> {
     let candidates = " #0 #1 0 2 @1".repeat(alloc, count)?;
     let words = format!(in alloc; "GGB1 0 #1 #{count}{}", candidates.as_str())?;
-    told(alloc, NUMBERS, 1, &words)
+    told(alloc, "numbers", 1, &words)
 }
 
 #[test]

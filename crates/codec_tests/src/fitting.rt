@@ -70,7 +70,9 @@ fn fits_tables(alloc: Global, schema: &Schema, candidate: &Candidate) -> bool
 {
     size_is_length();
     let changes = candidate.set.changes();
-    changes.iter().all(|change| fits_table(alloc, schema, &change.0, &change.1))
+    changes
+        .iter()
+        .all(|change| fits_table(alloc, schema, &change.0, &change.1))
         && candidate.set.size() <= MAX_SET_BYTES
 }
 
@@ -92,7 +94,11 @@ pub fn fits(alloc: Global, schema: &Schema, batch: &Batch) -> bool
         && batch.epoch > 0
         && batch.epoch < LAST_EPOCH
         && items.len() <= MAX_CANDIDATES as usize
-        && items.iter().all(|candidate| is_lawful(batch.epoch, candidate))
-        && items.iter().all(|candidate| fits_tables(alloc, schema, candidate))
+        && items
+            .iter()
+            .all(|candidate| is_lawful(batch.epoch, candidate))
+        && items
+            .iter()
+            .all(|candidate| fits_tables(alloc, schema, candidate))
         && batch_size(batch) <= MAX_BATCH_BYTES
 }

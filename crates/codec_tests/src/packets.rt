@@ -1,5 +1,6 @@
 //! Packets as bytes: spellings, faults with their places, and the limit of a batch's bytes.
 use crate::bytes::bytes_of;
+use crate::printing::is_answer;
 use crate::tables::schema_of;
 use geo_base::RegionNo;
 use set_codec::{CodecFault, Limit, Packet, packet_bytes, read_batch, read_packet};
@@ -46,43 +47,48 @@ fn told(alloc: Global, regions: u8, words: &str) -> Result<Option<CodecFault>, F
     Ok(read_packet(alloc, &schema, regions, &bytes).err())
 }
 
+/// The number of regions, bytes, and what these are told.
+const TOLD: &str = "\
+2  => Short(0)
+2 1 => Short(1)
+2 2 => Short(1)
+2 2 1 0 0 0 => Short(5)
+2 0 1 0 #1 => BadTag(0)
+2 3 1 0 #1 0 => BadTag(0)
+2 2 2 0 #1 0 => BadTag(1)
+8 2 7 0 #1 => fits
+8 2 8 0 #1 => BadTag(1)
+2 2 1 1 #1 => BadTag(2)
+2 2 1 1 #1 0 => BadTag(2)
+8 2 0 7 #1 => fits
+8 2 0 8 #1 => BadTag(2)
+2 2 1 0 #0 0 => BadTag(3)
+2 2 1 0 #4294967293 => fits
+2 2 1 0 #4294967294 => BadTag(3)
+2 2 1 0 #1 0 => Trailing(7)
+2 1 2 GGB1 0 0 => BadTag(1)
+8 1 7 GGB1 0 #1 #0 => fits
+8 1 8 GGB1 0 #1 #0 => BadTag(1)
+2 1 0 GGB1 0 0 => BadTag(1)
+2 1 0 71 71 66 50 0 0 => BadTag(2)
+2 1 1 GGB1 2 0 => BadTag(6)
+8 1 0 GGB1 7 #1 #0 => fits
+8 1 0 GGB1 8 #1 #0 => BadTag(6)
+2 1 1 GGB1 0 0 => Short(8)
+2 1 1 GGB1 0 #1 #0 0 => Trailing(15)
+2 1 1 GGB1 0 #1 #4097 => OverLimit(11, Candidates)";
+
+fn is_told(alloc: Global, line: &str) -> Result<bool, Fail> {
+    let (bytes, want) = line.split_once(" => ").ok_or("a line without an answer")?;
+    let (regions, words) = bytes.split_once(' ').ok_or("a line without regions")?;
+    let told = told(alloc, regions.parse()?, words)?;
+    is_answer(alloc, told, want)
+}
+
 #[test]
-fn each_packet_fault_has_its_place(rt: HostRuntime) -> Result<(), Fail> {
-    for (regions, words, fault) in [
-        (2, "", Some(CodecFault::Short(0))),
-        (2, "1", Some(CodecFault::Short(1))),
-        (2, "2", Some(CodecFault::Short(1))),
-        (2, "2 1 0 0 0", Some(CodecFault::Short(5))),
-        (2, "0 1 0 #1", Some(CodecFault::BadTag(0))),
-        (2, "3 1 0 #1 0", Some(CodecFault::BadTag(0))),
-        (2, "2 2 0 #1 0", Some(CodecFault::BadTag(1))),
-        (8, "2 7 0 #1", None),
-        (8, "2 8 0 #1", Some(CodecFault::BadTag(1))),
-        (2, "2 1 1 #1", Some(CodecFault::BadTag(2))),
-        (2, "2 1 1 #1 0", Some(CodecFault::BadTag(2))),
-        (8, "2 0 7 #1", None),
-        (8, "2 0 8 #1", Some(CodecFault::BadTag(2))),
-        (2, "2 1 0 #0 0", Some(CodecFault::BadTag(3))),
-        (2, "2 1 0 #4294967293", None),
-        (2, "2 1 0 #4294967294", Some(CodecFault::BadTag(3))),
-        (2, "2 1 0 #1 0", Some(CodecFault::Trailing(7))),
-        (2, "1 2 GGB1 0 0", Some(CodecFault::BadTag(1))),
-        (8, "1 7 GGB1 0 #1 #0", None),
-        (8, "1 8 GGB1 0 #1 #0", Some(CodecFault::BadTag(1))),
-        (2, "1 0 GGB1 0 0", Some(CodecFault::BadTag(1))),
-        (2, "1 0 71 71 66 50 0 0", Some(CodecFault::BadTag(2))),
-        (2, "1 1 GGB1 2 0", Some(CodecFault::BadTag(6))),
-        (8, "1 0 GGB1 7 #1 #0", None),
-        (8, "1 0 GGB1 8 #1 #0", Some(CodecFault::BadTag(6))),
-        (2, "1 1 GGB1 0 0", Some(CodecFault::Short(8))),
-        (2, "1 1 GGB1 0 #1 #0 0", Some(CodecFault::Trailing(15))),
-        (
-            2,
-            "1 1 GGB1 0 #1 #4097",
-            Some(CodecFault::OverLimit(11, Limit::Candidates)),
-        ),
-    ] {
-        assert_eq!(rt; told(rt.alloc(), regions, words)?, fault, "{words}");
+fn bytes_of_packets_are_told(rt: HostRuntime) -> Result<(), Fail> {
+    for line in TOLD.lines() {
+        assert!(rt; is_told(rt.alloc(), line)?, "{line}");
     }
     Ok(())
 }

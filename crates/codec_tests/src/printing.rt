@@ -1,5 +1,6 @@
-//! What a batch says, as a text.
+//! What a batch says and what bytes are told, as texts.
 use geo_base::print_row;
+use set_codec::CodecFault;
 use std::alloc::Global;
 use std::fmt::Write;
 use std::test::Fail;
@@ -29,4 +30,12 @@ pub fn batch_text(alloc: Global, batch: &Batch) -> Result<String, Fail> {
         add_changes(&mut out, &candidate.set)?;
     }
     Ok(out)
+}
+
+/// Whether this is told: that the bytes fit, or the fault as it is written in Rust.
+pub fn is_answer(alloc: Global, told: Option<CodecFault>, want: &str) -> Result<bool, Fail> {
+    match told {
+        Some(fault) => Ok(format!(in alloc; "{fault:?}")?.as_str() == want),
+        None => Ok(want == "fits"),
+    }
 }

@@ -97,7 +97,7 @@ fn keys_are_in_the_keys_order(rt: HostRuntime) -> Result<(), Fail> {
     Ok(())
 }
 
-/// The edge of a text: `[` before cells that are within, `(` before cells that are outside, or nothing.
+/// The edge of a text: `[` before cells that are within, `(` before cells that are outside, or else no bound.
 fn edge_of(alloc: Global, text: &str) -> Result<Edge, Fail> {
     if let Some(words) = text.strip_prefix('[') {
         return Ok(Edge::Incl(CellList::new(cells_of(alloc, words)?)));
@@ -119,30 +119,35 @@ fn is_between(alloc: Global, key: &str, low: &str, high: &str) -> Result<bool, F
 
 /// A key, two edges, and whether it lies between them. A key that has fewer cells than an edge and begins it
 /// is less than the edge.
-const RANGES: [(&str, &str, &str, bool); 16] = [
-    ("4 9", "", "", true),
-    ("4 9", "[4", "[4 9", true),
-    ("4 9", "(4", "", false),
-    ("4 9", "", "(4", false),
-    ("4 9", "(3", "(5", true),
-    ("4 9", "[4 10", "", false),
-    ("4", "[4 9", "", false),
-    ("4", "(4 9", "", false),
-    ("4", "", "[4 9", true),
-    ("4", "", "(4 9", true),
-    ("4", "[4 -", "", false),
-    ("4", "(3 9", "", true),
-    ("4", "[5 0", "", false),
-    ("4", "", "(5 0", true),
-    ("4", "", "[3 9", false),
-    ("4", "[3 9", "(4 9", true),
-];
+const RANGES: &str = "\
+4 9 / open / open => within
+4 9 / [4 / [4 9 => within
+4 9 / (4 / open => outside
+4 9 / open / (4 => outside
+4 9 / (3 / (5 => within
+4 9 / [4 10 / open => outside
+4 / [4 9 / open => outside
+4 / (4 9 / open => outside
+4 / open / [4 9 => within
+4 / open / (4 9 => within
+4 / [4 - / open => outside
+4 / (3 9 / open => within
+4 / [5 0 / open => outside
+4 / open / (5 0 => within
+4 / open / [3 9 => outside
+4 / [3 9 / (4 9 => within";
+
+fn is_told(alloc: Global, line: &str) -> Result<bool, Fail> {
+    let (range, want) = line.split_once(" => ").ok_or("a line without an answer")?;
+    let (key, edges) = range.split_once(" / ").ok_or("a line without edges")?;
+    let (low, high) = edges.split_once(" / ").ok_or("a line with one edge")?;
+    Ok(is_between(alloc, key, low, high)? == (want == "within"))
+}
 
 #[test]
 fn keys_between_edges(rt: HostRuntime) -> Result<(), Fail> {
-    for (key, low, high, holds) in RANGES {
-        let between = is_between(rt.alloc(), key, low, high)?;
-        assert_eq!(rt; between, holds, "{key} from {low} to {high}");
+    for line in RANGES.lines() {
+        assert!(rt; is_told(rt.alloc(), line)?, "{line}");
     }
     Ok(())
 }
