@@ -30,13 +30,18 @@ IsNoScript bytes = (script : Script) → ¬ (IsScript script bytes)
 unfoldable pub bytes_read : List ℕ → List ℕ
 bytes_read bytes = take (SCRIPT_BYTES + 1) bytes
 
--- the sink gained a front of the events' lines: at least those of the first `done - 1` events, and at most those of the first `done`.
--- Each front lies between the lines of some such number and the next; a play that keeps logs will tie them to the same number
+-- the sink gained a front of the events' lines, and so far the events came. Each front lies between the lines of some number of
+-- events and the next; a play that keeps logs will tie them to the same number
 pub record StoppedAfter (w : World) (events : List Event) (old new : Option (List ℕ)) : Type 0 where
+  -- so many events were begun
   pub done : ℕ
   pub within : done ≤ length events
+  -- these bytes were written
   pub gained : List ℕ
   pub appended : Appends old new gained
+  -- at least the lines of all these events but the last
   pub least : IsFrontOf (text_of w (take (done - 1) events)) gained
+  -- at most the lines of all these events
   pub most : IsFrontOf gained (text_of w (take done events))
+  -- and so a front of all lines
   pub front : IsFrontOf gained (text_of w events)

@@ -30,11 +30,9 @@ pub fn play_call<S: Source, K: Sink, L: Keepers>(
     ensures logs { logs.new ≡ logs.old }
 {
     let _ = logs;
+    plays_are_isolated();
     match take_script(alloc, src) {
-        Ok(script) => {
-            plays_are_isolated();
-            play_script(alloc, &script, opts.last_epoch, out)
-        }
+        Ok(script) => play_script(alloc, &script, opts.last_epoch, out),
         Err(status) => status,
     }
 }
