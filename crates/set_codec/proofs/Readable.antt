@@ -7,15 +7,15 @@ use Rattle.std.proofs.lemmas.List.Elements.{All-from_recursion, All-push}
 use Rattle.geo_base.specs.declared.cell.Cell.{Cell}
 use Rattle.geo_base.specs.declared.cell.Cell.TheVariants as cell
 use Rattle.geo_schema.specs.declared.table.TableDef.{TableDef}
-use Rattle.geo_schema.specs.Rows.{is_in, row_fault, key_cells}
+use Rattle.geo_schema.specs.Rows.{is_in, IsRow, key_cells}
 use Rattle.row_codec.specs.Spelling.{IsCell, AreCells}
-use Rattle.geo_schema.proofs.Steps.{take_at}
+use Rattle.geo_schema.specs.laws.Steps.{take_at}
 use Rattle.write_set.specs.Sets.{ChangeOfRow}
 use Rattle.set_codec.specs.Fits.{FitsChange, HasCells}
 use Rattle.set_codec.specs.Spelling.{other_cells}
 use Rattle.write_set.specs.declared.change.Change.TheVariants.{Put}
-use Rattle.set_codec.proofs.KeyPlaces.{place_in, found, not_in_key}
-use Rattle.set_codec.proofs.ChangeReads.{key_same}
+use Rattle.set_codec.specs.laws.KeyPlaces.{place_in, found, not_in_key}
+use Rattle.set_codec.specs.laws.Rows.{key_same}
 
 all_cells : (key : List ℕ) (place : ℕ) (cells : List Cell) → AreCells (other_cells key place cells) → ((k : ℕ) → k < length cells → is_in key (place + k) ≡ true → IsCell (get_or cells k cell.Null)) → AreCells cells
 all_cells key place [] others known = tt
@@ -43,7 +43,7 @@ put_are table key image fits key_are others = all_cells table.key 0 image others
         subst IsCell (sym (key_same table key image fits.1 k i lt is)) (All-from_recursion IsCell key key_are i cell.Null within)
     by k lt inside None is = absurd (both_ways (is_in table.key (0 + k)) (not_in_key table.key (0 + k) is) inside)
 
-pub put_cells : (table : TableDef) (key image : List Cell) → row_fault table image ≡ None → key_cells table image ≡ key → AreCells key → AreCells (other_cells table.key 0 image) → AreCells image
+pub put_cells : (table : TableDef) (key image : List Cell) → IsRow table image → key_cells table image ≡ key → AreCells key → AreCells (other_cells table.key 0 image) → AreCells image
 put_cells table key image fits same key_are others = put_are table key image (fits, same) key_are others
 
 -- one change more has cells of the program

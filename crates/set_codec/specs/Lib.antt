@@ -1,6 +1,10 @@
+pub mod CellFaults
 pub mod Spelling
+pub mod Rules
 pub mod Fits
-pub mod Reading
-pub mod Laws
 pub mod Standing
 pub mod Faults
+pub mod Alone
+pub mod Sizes
+pub mod inner
+pub mod laws

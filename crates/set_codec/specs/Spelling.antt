@@ -11,8 +11,15 @@ use Rattle.write_set.specs.declared.change.Change.TheVariants.{Put, Remove}
 use Rattle.write_set.specs.declared.candidate.Candidate.{Candidate}
 use Rattle.write_set.specs.declared.batch.Batch.{Batch}
 use Rattle.write_set.specs.Sets.{ChangeOfRow}
+use Rattle.set_codec.specs.declared.kind.Kind.{Kind}
+use Rattle.set_codec.specs.declared.kind.Kind.TheVariants as kind
 use Rattle.set_codec.specs.declared.packet.Packet.{Packet}
 use Rattle.set_codec.specs.declared.packet.Packet.TheVariants as packet
+
+-- the byte of a change that puts or removes a row
+abbrev pub kind_byte : Kind → ℕ
+kind_byte kind.Put = 1
+kind_byte kind.Remove = 2
 
 -- the cells that don't stand at a place of the key, where the first one stands at the given place
 abbrev pub other_cells : List ℕ → ℕ → List Cell → List Cell
@@ -27,8 +34,8 @@ number_spelling = to_be_bytes w32
 -- the table and the kind; behind them the cells of the key, and those of the row's other columns where it is put
 unfoldable pub change_spelling : List TableDef → ChangeOfRow → List ℕ
 change_spelling tables (row, Put image) =
-    row.table ∷ 1 ∷ (cells_spelling row.key ++ cells_spelling (other_cells (table_at tables row.table).key 0 image))
-change_spelling tables (row, Remove) = row.table ∷ 2 ∷ cells_spelling row.key
+    row.table ∷ kind_byte kind.Put ∷ (cells_spelling row.key ++ cells_spelling (other_cells (table_at tables row.table).key 0 image))
+change_spelling tables (row, Remove) = row.table ∷ kind_byte kind.Remove ∷ cells_spelling row.key
 
 -- one change after another
 abbrev pub changes_spelling : List TableDef → List ChangeOfRow → List ℕ

@@ -1,76 +1,86 @@
 -- What stands at a place of the bytes and keeps its rules. In a pair the number is the place behind the spelling.
-use Rattle.std.specs.Prelude.{◌≡◌, ℕ, ◌+◌, ◌<◌, ◌≤◌, Bool, if◌then◌else◌, Option, Some, None, List, [], ◌∷◌, length}
+use Rattle.std.specs.Prelude.{◌≡◌, ℕ, ◌+◌, ◌<◌, Option, Some, None, List, [], ◌∷◌, length, position, nat_eq, slice_index, slice_index_or}
+use Rattle.std.specs.Int.{w32}
 use Rattle.std.specs.List.{AllByRecursion}
-use Rattle.std.specs.declared.cmp.Ordering.TheVariants as order
-use Rattle.geo_base.specs.declared.limits.TheConstants.{MAX_AGE, MAX_CANDIDATES, MAX_SET_ROWS, LAST_EPOCH}
 use Rattle.geo_base.specs.declared.cell.Cell.{Cell}
+use Rattle.geo_base.specs.declared.cell.Cell.TheVariants as cell
 use Rattle.geo_base.specs.declared.row_id.RowId.{RowId}
-use Rattle.geo_base.specs.Order.{row_cmp}
 use Rattle.geo_schema.specs.declared.table.TableDef.{TableDef}
-use Rattle.row_codec.specs.Spelling.{cells_spelling, AreCells, StandsAt}
+use Rattle.row_codec.specs.Fields.{ByteStands, NumberStands, FieldStands}
+use Rattle.row_codec.specs.Parts.{Keeps}
+use Rattle.row_codec.specs.Places.{StandsAt}
+use Rattle.row_codec.specs.Spelling.{cells_spelling, AreCells, CellStands}
 use Rattle.write_set.specs.declared.candidate.Candidate.{Candidate}
-use Rattle.write_set.specs.Journal.{IsCandidate}
+use Rattle.write_set.specs.declared.batch.Batch.{Batch}
+use Rattle.write_set.specs.Journal.{IsCandidate, IsBatch}
 use Rattle.write_set.specs.Sets.{ChangeOfRow}
-use Rattle.set_codec.specs.Fits.{FitPlaces, FitsTable, FitsTables, HasCells, HaveCells}
-use Rattle.set_codec.specs.Spelling.{number_spelling, changes_spelling, candidates_spelling}
+use Rattle.set_codec.specs.declared.kind.Kind.{Kind}
+use Rattle.set_codec.specs.Fits.{AreTaken, FitsTable, FitsTables, HasCells, HaveCells}
+use Rattle.set_codec.specs.Rules.{IsMark, IsRegionOf, IsOther, IsSealable, IsCandidateCount, IsStartOf, IsRowCount, IsTableOf, IsAfter, IsTaken}
+use Rattle.set_codec.specs.Spelling.{other_cells, kind_byte, changes_spelling, candidates_spelling, batch_spelling}
 
 -- ---- fields
 
+-- the mark
+abbrev pub MarkStands : List ℕ → ℕ → List ℕ × ℕ → Type 0
+MarkStands bytes at = Keeps (FieldStands 4 bytes at) IsMark
+
 -- the number of one of so many regions
 abbrev pub RegionStands : ℕ → List ℕ → ℕ → ℕ × ℕ → Type 0
-RegionStands regions bytes at x = StandsAt (x.0 ∷ []) bytes at x.1 × (x.0 < regions)
+RegionStands regions bytes at = Keeps (ByteStands bytes at) (IsRegionOf regions)
 
--- it isn't the region that the batch goes to
-abbrev pub IsOther : Option ℕ → ℕ → Type 0
-IsOther None region = Unit {0}
-IsOther (Some to) region = ¬ (region ≡ to)
+-- the number of such a region, which isn't a given one
+abbrev pub OtherStands : ℕ → Option ℕ → List ℕ → ℕ → ℕ × ℕ → Type 0
+OtherStands regions one bytes at = Keeps (RegionStands regions bytes at) (IsOther one)
 
 -- an epoch that can be sealed
-pub record EpochStands (bytes : List ℕ) (at : ℕ) (x : ℕ × ℕ) : Type 0 where
-  pub stands : StandsAt (number_spelling x.0) bytes at x.1
-  pub some : 1 ≤ x.0
-  pub sealed : x.0 < LAST_EPOCH
+abbrev pub EpochStands : List ℕ → ℕ → ℕ × ℕ → Type 0
+EpochStands bytes at = Keeps (NumberStands w32 bytes at) IsSealable
 
 -- a number of candidates
 abbrev pub CountStands : List ℕ → ℕ → ℕ × ℕ → Type 0
-CountStands bytes at x = StandsAt (number_spelling x.0) bytes at x.1 × (x.0 ≤ MAX_CANDIDATES)
+CountStands bytes at = Keeps (NumberStands w32 bytes at) IsCandidateCount
 
 -- the start of a candidate of the epoch
-pub record StartStands (epoch : ℕ) (bytes : List ℕ) (at : ℕ) (x : ℕ × ℕ) : Type 0 where
-  pub stands : StandsAt (number_spelling x.0) bytes at x.1
-  pub earlier : x.0 < epoch
-  pub young : epoch ≤ x.0 + MAX_AGE
+abbrev pub StartStands : ℕ → List ℕ → ℕ → ℕ × ℕ → Type 0
+StartStands epoch bytes at = Keeps (NumberStands w32 bytes at) (IsStartOf epoch)
 
 -- a number of rows
-pub record RowsStand (bytes : List ℕ) (at : ℕ) (x : ℕ × ℕ) : Type 0 where
-  pub stands : StandsAt (number_spelling x.0) bytes at x.1
-  pub some : 1 ≤ x.0
-  pub few : x.0 ≤ MAX_SET_ROWS
+abbrev pub RowsStand : List ℕ → ℕ → ℕ × ℕ → Type 0
+RowsStand bytes at = Keeps (NumberStands w32 bytes at) IsRowCount
 
 -- the number of a table that there is
 abbrev pub TableStands : List TableDef → List ℕ → ℕ → ℕ × ℕ → Type 0
-TableStands tables bytes at x = StandsAt (x.0 ∷ []) bytes at x.1 × (x.0 < length tables)
+TableStands tables bytes at = Keeps (ByteStands bytes at) (IsTableOf tables)
 
--- the byte of a change that puts or removes a row
-abbrev pub kind_byte : Bool → ℕ
-kind_byte puts = if puts then 1 else 2
+-- the byte of a kind
+abbrev pub KindStands : List ℕ → ℕ → Kind × ℕ → Type 0
+KindStands bytes at x = ByteStands bytes at (kind_byte x.0, x.1)
 
--- that byte
-abbrev pub KindStands : List ℕ → ℕ → Bool × ℕ → Type 0
-KindStands bytes at x = StandsAt (kind_byte x.0 ∷ []) bytes at x.1
+-- a cell that is taken by the column at the place
+abbrev pub TakenStands : TableDef → ℕ → List ℕ → ℕ → Cell × ℕ → Type 0
+TakenStands table place bytes at = Keeps (CellStands bytes at) (IsTaken table place)
 
--- ---- keys, changes and candidates
+-- ---- keys and rows
 
--- cells for these places, each taken by the column there
-pub record KeyStands (table : TableDef) (places : List ℕ) (bytes : List ℕ) (at : ℕ) (x : List Cell × ℕ) : Type 0 where
-  pub fits : FitPlaces table places x.0
+-- cells of a key from the i-th on, each taken by its column
+pub record KeyStands (table : TableDef) (i : ℕ) (bytes : List ℕ) (at : ℕ) (x : List Cell × ℕ) : Type 0 where
+  pub taken : AreTaken table (slice_index table.key) i x.0
   pub are : AreCells x.0
   pub stands : StandsAt (cells_spelling x.0) bytes at x.1
 
--- the row is greater than the one before it, if there is one
-abbrev pub IsAfter : Option RowId → RowId → Type 0
-IsAfter None row = Unit {0}
-IsAfter (Some last) row = row_cmp last row ≡ order.Less
+-- cells of a row, where the first one's place is the i-th, have the key's cells at the key's places
+abbrev pub HasKey : TableDef → List Cell → ℕ → List Cell → Type 0
+HasKey table key i row = (k j : ℕ) → k < length row → position (λ p. nat_eq p (i + k)) table.key ≡ Some j → slice_index_or row k cell.Null ≡ slice_index_or key j cell.Null
+
+-- cells of a row with that key, where the first one's place is the i-th: each is taken by its column, and those that the key hasn't stand there
+pub record RowStands (table : TableDef) (key : List Cell) (i : ℕ) (bytes : List ℕ) (at : ℕ) (x : List Cell × ℕ) : Type 0 where
+  pub taken : AreTaken table (λ place. place) i x.0
+  pub are : AreCells x.0
+  pub same : HasKey table key i x.0
+  pub stands : StandsAt (cells_spelling (other_cells table.key i x.0)) bytes at x.1
+
+-- ---- changes and candidates
 
 -- each row is greater than the one before it, and the first than the one before them
 abbrev pub AreAfter : Option RowId → List ChangeOfRow → Type 0
@@ -95,3 +105,15 @@ pub record CandidatesStand (tables : List TableDef) (epoch : ℕ) (bytes : List 
   pub fits : AllByRecursion (FitsTables tables) x.0
   pub cells : AllByRecursion HaveCells x.0
   pub stands : StandsAt (candidates_spelling tables x.0) bytes at x.1
+
+-- ---- batches
+
+-- a lawful batch of one of so many regions, for the region that it goes to, if it is in a packet
+pub record BatchStands (tables : List TableDef) (regions : ℕ) (to : Option ℕ) (bytes : List ℕ) (at : ℕ) (x : Batch × ℕ) : Type 0 where
+  pub here : IsRegionOf regions x.0.region
+  pub other : IsOther to x.0.region
+  pub sealable : IsSealable x.0.epoch
+  pub lawful : IsBatch x.0.region x.0.epoch x.0
+  pub items : AllByRecursion (FitsTables tables) x.0.items
+  pub cells : AllByRecursion HaveCells x.0.items
+  pub stands : StandsAt (batch_spelling tables x.0) bytes at x.1

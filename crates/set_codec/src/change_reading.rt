@@ -1,101 +1,80 @@
 //! Changes, whose rows rise.
-ghost use Rattle.std.specs.Prelude.{◌≡◌, ◌≤◌, ◌<◌, length, IfOk, IfSome, true, None};
-ghost use Rattle.std.specs.List.{slice_get};
+ghost use Rattle.std.specs.Prelude.{◌≡◌, ◌≤◌, ◌<◌, length, IfOk};
 ghost use Rattle.std.specs.Option.{option_copied};
+ghost use Rattle.geo_base.specs.Results.{Gives};
 ghost use Rattle.geo_schema.specs.Schemas.{table_at};
-ghost use Rattle.geo_schema.specs.Tables.{is_table};
-ghost use Rattle.set_codec.specs.Reading.{Gives, is_behind, table_no_at, kind_at, done_at, change_at, last_row, changes_at};
+ghost use Rattle.geo_schema.specs.Tables.{IsTable};
+ghost use Rattle.set_codec.specs.declared.fault.CodecFault.TheVariants.{NoMemory};
+ghost use Rattle.set_codec.specs.inner.Reading.{is_after, table_no_at, done_at, change_at, last_row, changes_at};
 
 use crate::fault::CodecFault;
-use crate::fields::read_byte;
-use crate::kind;
+use crate::fields::read_kind;
+use crate::kind::Kind;
 use crate::row_reading::{read_key, read_row};
 use geo_base::{RowId, RowImage, TableNo};
 use geo_schema::{Schema, TableDef};
+use row_codec::fields::read_byte;
 use std::alloc::Global;
 use write_set::Change;
 
-#[tactic(auto, using(crate::proofs::Keys::keeps))]
-fn table_of<'a>(schema: &'a Schema, no: TableNo) -> Option<&'a TableDef>
-    ensures table { option_copied result ≡ slice_get schema.entry.now no }
-    ensures rules { IfSome result (λ table. is_table table.now ≡ true) }
-{
-    schema.table(no)
-}
-
 /// The number of a table, and the table.
-#[tactic(auto, unfolding(crate::specs::Reading::table_no_at))]
+#[tactic(auto, unfolding(crate::specs::inner::Reading::table_no_at))]
 fn read_table<'a>(
     schema: &'a Schema,
     bytes: &[u8],
     at: usize,
 ) -> Result<(TableNo, &'a TableDef, usize), CodecFault>
     requires { at ≤ length bytes.now }
-    ensures exact { Gives (λ x. (x.0, x.2)) result (table_no_at schema.entry.now bytes.now at) }
+    ensures exact { Gives NoMemory (λ x. (x.0, x.2)) result (table_no_at schema.entry.now bytes.now at) }
     ensures table { IfOk result (λ x. x.1.now ≡ table_at schema.entry.now x.0) }
-    ensures rules { IfOk result (λ x. is_table x.1.now ≡ true) }
+    ensures rules { IfOk result (λ x. IsTable x.1.now) }
     ensures within { IfOk result (λ x. x.2 ≤ length bytes.now) }
 {
-    let (no, next) = read_byte(bytes, at)?;
-    match table_of(schema, no) {
+    let (no, next) = read_byte::<CodecFault>(bytes, at)?;
+    match schema.table(no) {
         Some(table) => Ok((no, table, next)),
         None => Err(CodecFault::BadRow(at)),
     }
 }
 
-/// Whether a row is put, and not removed.
-#[tactic(auto, unfolding(crate::specs::Reading::kind_at))]
-fn read_kind(bytes: &[u8], at: usize) -> Result<(bool, usize), CodecFault>
-    requires { at ≤ length bytes.now }
-    ensures exact { Gives (λ x. x) result (kind_at bytes.now at) }
-    ensures within { IfOk result (λ x. x.1 ≤ length bytes.now) }
-{
-    let (tag, next) = read_byte(bytes, at)?;
-    match tag {
-        kind::PUT => Ok((true, next)),
-        kind::REMOVE => Ok((false, next)),
-        _ => Err(CodecFault::BadTag(at)),
-    }
-}
-
-/// Whether the row isn't greater than the one before it.
-fn is_behind(last: Option<&RowId>, row: &RowId) -> bool
-    ensures { result ≡ is_behind (option_copied last.entry) row.now }
+/// Whether the row is greater than the one before it.
+fn is_after(last: Option<&RowId>, row: &RowId) -> bool
+    ensures { result ≡ is_after (option_copied last.entry) row.now }
 {
     match last {
-        None => false,
-        Some(last) => !last.cmp(row).is_lt(),
+        None => true,
+        Some(last) => last.cmp(row).is_lt(),
     }
 }
 
 /// What is done to a row that is known.
-#[tactic(auto, using(crate::proofs::Keys::some_columns, crate::proofs::Keys::few_columns), unfolding(crate::specs::Reading::done_at))]
+#[tactic(auto, using(crate::specs::laws::Rows::columns_are_few, crate::specs::laws::Rows::columns_are_some), unfolding(crate::specs::inner::Reading::done_at))]
 fn read_done(
     alloc: Global,
     table: &TableDef,
     row: RowId,
-    puts: bool,
+    kind: Kind,
     bytes: &[u8],
     at: usize,
 ) -> Result<((RowId, Change), usize), CodecFault>
     requires place { at ≤ length bytes.now }
-    requires rules { is_table table.now ≡ true }
+    requires rules { IsTable table.now }
     requires len { length row.key ≡ length table.now.key }
-    ensures exact { Gives (λ x. x) result (done_at table.now row puts bytes.now at) }
+    ensures exact { Gives NoMemory (λ x. x) result (done_at table.now row kind bytes.now at) }
     ensures within { IfOk result (λ x. x.1 ≤ length bytes.now) }
 {
-    if !puts {
-        return Ok(((row, Change::Remove), at));
+    match kind {
+        Kind::Put => {
+            let (cells, next) = read_row(alloc, table, row.key.cells(), bytes, at)?;
+            let image = RowImage::new(cells).unwrap();
+            Ok(((row, Change::Put(image)), next))
+        }
+        Kind::Remove => Ok(((row, Change::Remove), at)),
     }
-    let key = table.key.items();
-    let columns = table.columns.items();
-    let (cells, next) = read_row(alloc, key, columns, row.key.cells(), bytes, at)?;
-    let image = RowImage::new(cells).unwrap();
-    Ok(((row, Change::Put(image)), next))
 }
 
 /// A change, of a row greater than the last one.
-#[tactic(auto, unfolding(crate::specs::Reading::change_at))]
+#[tactic(auto, unfolding(crate::specs::inner::Reading::change_at))]
 fn read_change(
     alloc: Global,
     schema: &Schema,
@@ -104,17 +83,17 @@ fn read_change(
     at: usize,
 ) -> Result<((RowId, Change), usize), CodecFault>
     requires { at ≤ length bytes.now }
-    ensures exact { Gives (λ x. x) result (change_at schema.now (option_copied last.entry) bytes.now at) }
+    ensures exact { Gives NoMemory (λ x. x) result (change_at schema.now (option_copied last.entry) bytes.now at) }
     ensures within { IfOk result (λ x. x.1 ≤ length bytes.now) }
 {
     let (no, table, next) = read_table(schema, bytes, at)?;
-    let (puts, next) = read_kind(bytes, next)?;
+    let (kind, next) = read_kind(bytes, next)?;
     let (key, next) = read_key(alloc, table, bytes, next)?;
     let row = RowId { table: no, key };
-    if is_behind(last, &row) {
+    if !is_after(last, &row) {
         return Err(CodecFault::NotOrdered(at));
     }
-    read_done(alloc, table, row, puts, bytes, next)
+    read_done(alloc, table, row, kind, bytes, next)
 }
 
 /// The row of the last change.
@@ -129,7 +108,7 @@ fn last_row(changes: &[(RowId, Change)]) -> Option<&RowId>
 }
 
 /// So many changes, of rows that rise.
-pub fn read_changes(
+pub(crate) fn read_changes(
     alloc: Global,
     schema: &Schema,
     count: u32,
@@ -137,7 +116,7 @@ pub fn read_changes(
     at: usize,
 ) -> Result<(Vec<(RowId, Change)>, usize), CodecFault>
     requires { at ≤ length bytes.now }
-    ensures exact { Gives (λ x. (x.0.items, x.1)) result (changes_at schema.now None count bytes.now at) }
+    ensures exact { Gives NoMemory (λ x. (x.0.items, x.1)) result (changes_at schema.now count bytes.now at) }
     ensures within { IfOk result (λ x. x.1 ≤ length bytes.now) }
 {
     let mut changes: Vec<(RowId, Change)> = Vec::new(alloc);

@@ -1,9 +1,10 @@
 ghost use Rattle.std.specs.Prelude.{◌≡◌};
-ghost use Rattle.set_codec.specs.Reading.{fault_of};
+ghost use Rattle.set_codec.specs.CellFaults.{fault_of};
 ghost use Rattle.set_codec.specs.declared.fault.CodecFault.TheVariants as fault;
 
 use geo_base::NoMemory;
 use row_codec::CellReadFault;
+use row_codec::fields::FieldFault;
 use std::alloc::{AllocError, AllocFailed};
 
 /// What there is too much of.
@@ -80,5 +81,13 @@ impl<T: Drop> From<AllocFailed<T>> for CodecFault {
 
     fn from(_e: AllocFailed<T>) -> CodecFault {
         CodecFault::NoMemory
+    }
+}
+
+impl FieldFault for CodecFault {
+    ghost short = { fault.Short };
+
+    fn short_at(end: usize) -> CodecFault {
+        CodecFault::Short(end)
     }
 }

@@ -1,69 +1,162 @@
 //! The fields that are no cells.
 ghost use Rattle.std.specs.Prelude.{◌≡◌, ◌≤◌, ◌<◌, length, IfOk};
-ghost use Rattle.set_codec.specs.Reading.{Gives, field_at, byte_at, number_at, region_at, epoch_at};
-ghost use Rattle.geo_base.specs.declared.limits.TheConstants.{LAST_EPOCH};
+ghost use Rattle.geo_base.specs.declared.limits.TheConstants.{LAST_EPOCH, MAX_SET_ROWS};
+ghost use Rattle.geo_base.specs.Results.{Gives};
+ghost use Rattle.set_codec.specs.declared.fault.CodecFault.TheVariants.{NoMemory};
+ghost use Rattle.set_codec.specs.inner.Reading.{mark_at, region_at, is_other, other_at, epoch_at, count_at, start_at, rows_at, kind_at, end_at};
 
-use crate::fault::CodecFault;
-use geo_base::limits::LAST_EPOCH;
+use crate::fault::{CodecFault, Limit};
+use crate::kind;
+use crate::kind::{Kind, MARK};
+use geo_base::limits::{LAST_EPOCH, MAX_AGE, MAX_CANDIDATES, MAX_SET_ROWS};
 use geo_base::{Epoch, RegionNo};
+use row_codec::fields::{read_byte, read_field, read_u32};
 
-#[tactic(auto, unfolding(crate::specs::Reading::field_at))]
-pub fn read_field(bytes: &[u8], at: usize, count: usize) -> Result<(&[u8], usize), CodecFault>
+/// The mark that a batch begins with.
+#[tactic(auto, unfolding(crate::specs::inner::Reading::mark_at))]
+pub(crate) fn read_mark(bytes: &[u8], at: usize) -> Result<(&[u8], usize), CodecFault>
     requires { at ≤ length bytes.now }
-    ensures exact { Gives (λ x. (x.0.now, x.1)) result (field_at count bytes.now at) }
+    ensures exact { Gives NoMemory (λ x. (x.0.now, x.1)) result (mark_at bytes.now at) }
     ensures within { IfOk result (λ x. x.1 ≤ length bytes.now) }
-    ensures len { IfOk result (λ x. length x.0.now ≡ count) }
 {
-    if bytes.len() - at < count {
-        return Err(CodecFault::Short(bytes.len()));
+    let (field, next) = read_field::<CodecFault>(bytes, at, 4)?;
+    if field != MARK.as_slice() {
+        return Err(CodecFault::BadTag(at));
     }
-    Ok((&bytes[at..at + count], at + count))
+    Ok((field, next))
 }
 
-#[tactic(auto, unfolding(crate::specs::Reading::byte_at))]
-pub fn read_byte(bytes: &[u8], at: usize) -> Result<(u8, usize), CodecFault>
+/// The number of one of so many regions.
+#[tactic(auto, unfolding(crate::specs::inner::Reading::region_at))]
+pub(crate) fn read_region(
+    bytes: &[u8],
+    at: usize,
+    regions: u8,
+) -> Result<(RegionNo, usize), CodecFault>
     requires { at ≤ length bytes.now }
-    ensures exact { Gives (λ x. x) result (byte_at bytes.now at) }
+    ensures exact { Gives NoMemory (λ x. x) result (region_at regions bytes.now at) }
     ensures within { IfOk result (λ x. x.1 ≤ length bytes.now) }
 {
-    let (field, next) = read_field(bytes, at, 1)?;
-    Ok((field[0], next))
-}
-
-#[tactic(auto, unfolding(crate::specs::Reading::number_at))]
-pub fn read_number(bytes: &[u8], at: usize) -> Result<(u32, usize), CodecFault>
-    requires { at ≤ length bytes.now }
-    ensures exact { Gives (λ x. x) result (number_at bytes.now at) }
-    ensures within { IfOk result (λ x. x.1 ≤ length bytes.now) }
-{
-    let (field, next) = read_field(bytes, at, 4)?;
-    let number = u32::from_be_bytes([field[0], field[1], field[2], field[3]]);
-    Ok((number, next))
-}
-
-#[tactic(auto, unfolding(crate::specs::Reading::region_at))]
-pub fn read_region(bytes: &[u8], at: usize, regions: u8) -> Result<(RegionNo, usize), CodecFault>
-    requires { at ≤ length bytes.now }
-    ensures exact { Gives (λ x. x) result (region_at regions bytes.now at) }
-    ensures within { IfOk result (λ x. x.1 ≤ length bytes.now) }
-{
-    let (region, next) = read_byte(bytes, at)?;
+    let (region, next) = read_byte::<CodecFault>(bytes, at)?;
     if region >= regions {
         return Err(CodecFault::BadTag(at));
     }
     Ok((region, next))
 }
 
-#[tactic(auto, unfolding(crate::specs::Reading::epoch_at))]
-pub fn read_epoch(bytes: &[u8], at: usize) -> Result<(Epoch, usize), CodecFault>
+fn is_other(one: Option<RegionNo>, region: RegionNo) -> bool
+    ensures { result ≡ is_other one region }
+{
+    match one {
+        Some(one) => region != one,
+        None => true,
+    }
+}
+
+/// The number of one of so many regions, which isn't the given one: that is the fault of the field at `blamed`.
+#[tactic(auto, unfolding(crate::specs::inner::Reading::other_at))]
+pub(crate) fn read_other(
+    bytes: &[u8],
+    at: usize,
+    regions: u8,
+    one: Option<RegionNo>,
+    blamed: usize,
+) -> Result<(RegionNo, usize), CodecFault>
     requires { at ≤ length bytes.now }
-    ensures exact { Gives (λ x. x) result (epoch_at bytes.now at) }
+    ensures exact { Gives NoMemory (λ x. x) result (other_at regions one blamed bytes.now at) }
+    ensures within { IfOk result (λ x. x.1 ≤ length bytes.now) }
+{
+    let (region, next) = read_region(bytes, at, regions)?;
+    if !is_other(one, region) {
+        return Err(CodecFault::BadTag(blamed));
+    }
+    Ok((region, next))
+}
+
+/// An epoch that can be sealed.
+#[tactic(auto, unfolding(crate::specs::inner::Reading::epoch_at))]
+pub(crate) fn read_epoch(bytes: &[u8], at: usize) -> Result<(Epoch, usize), CodecFault>
+    requires { at ≤ length bytes.now }
+    ensures exact { Gives NoMemory (λ x. x) result (epoch_at bytes.now at) }
     ensures within { IfOk result (λ x. x.1 ≤ length bytes.now) }
     ensures sealed { IfOk result (λ x. x.0 < LAST_EPOCH) }
 {
-    let (epoch, next) = read_number(bytes, at)?;
-    if epoch == 0 || epoch >= LAST_EPOCH {
+    let (epoch, next) = read_u32::<CodecFault>(bytes, at)?;
+    if epoch < 1 || epoch >= LAST_EPOCH {
         return Err(CodecFault::BadTag(at));
     }
     Ok((epoch, next))
+}
+
+/// The number of candidates.
+#[tactic(auto, unfolding(crate::specs::inner::Reading::count_at))]
+pub(crate) fn read_count(bytes: &[u8], at: usize) -> Result<(u32, usize), CodecFault>
+    requires { at ≤ length bytes.now }
+    ensures exact { Gives NoMemory (λ x. x) result (count_at bytes.now at) }
+    ensures within { IfOk result (λ x. x.1 ≤ length bytes.now) }
+{
+    let (count, next) = read_u32::<CodecFault>(bytes, at)?;
+    if count > MAX_CANDIDATES {
+        return Err(CodecFault::OverLimit(at, Limit::Candidates));
+    }
+    Ok((count, next))
+}
+
+/// The start of a candidate of the epoch.
+#[tactic(auto, unfolding(crate::specs::inner::Reading::start_at))]
+pub(crate) fn read_start(
+    bytes: &[u8],
+    at: usize,
+    epoch: Epoch,
+) -> Result<(Epoch, usize), CodecFault>
+    requires { at ≤ length bytes.now }
+    ensures exact { Gives NoMemory (λ x. x) result (start_at epoch bytes.now at) }
+    ensures within { IfOk result (λ x. x.1 ≤ length bytes.now) }
+{
+    let (start, next) = read_u32::<CodecFault>(bytes, at)?;
+    if start >= epoch || epoch - start > MAX_AGE {
+        return Err(CodecFault::BadStart(at));
+    }
+    Ok((start, next))
+}
+
+/// The number of a candidate's rows.
+#[tactic(auto, unfolding(crate::specs::inner::Reading::rows_at))]
+pub(crate) fn read_rows(bytes: &[u8], at: usize) -> Result<(u32, usize), CodecFault>
+    requires { at ≤ length bytes.now }
+    ensures exact { Gives NoMemory (λ x. x) result (rows_at bytes.now at) }
+    ensures within { IfOk result (λ x. x.1 ≤ length bytes.now) }
+    ensures few { IfOk result (λ x. x.0 ≤ MAX_SET_ROWS) }
+{
+    let (rows, next) = read_u32::<CodecFault>(bytes, at)?;
+    if rows < 1 || rows > MAX_SET_ROWS {
+        return Err(CodecFault::OverLimit(at, Limit::Rows));
+    }
+    Ok((rows, next))
+}
+
+/// The kind of a change.
+#[tactic(auto, unfolding(crate::specs::inner::Reading::kind_at))]
+pub(crate) fn read_kind(bytes: &[u8], at: usize) -> Result<(Kind, usize), CodecFault>
+    requires { at ≤ length bytes.now }
+    ensures exact { Gives NoMemory (λ x. x) result (kind_at bytes.now at) }
+    ensures within { IfOk result (λ x. x.1 ≤ length bytes.now) }
+{
+    let (byte, next) = read_byte::<CodecFault>(bytes, at)?;
+    match byte {
+        kind::PUT => Ok((Kind::Put, next)),
+        kind::REMOVE => Ok((Kind::Remove, next)),
+        _ => Err(CodecFault::BadTag(at)),
+    }
+}
+
+/// The bytes end at the place.
+#[tactic(auto, unfolding(crate::specs::inner::Reading::end_at))]
+pub(crate) fn read_end<T: Drop>(value: T, bytes: &[u8], at: usize) -> Result<T, CodecFault>
+    ensures exact { Gives NoMemory (λ x. x) result (end_at value bytes.now at) }
+{
+    if at < bytes.len() {
+        return Err(CodecFault::Trailing(at));
+    }
+    Ok(value)
 }

@@ -1,5 +1,12 @@
 //! The bytes that say which kind of change or of packet follows.
 
+/// What a change does to its row.
+#[derive(Clone, Copy, Debug, PartialEq, Eq)]
+pub enum Kind {
+    Put,
+    Remove,
+}
+
 pub const PUT: u8 = 1;
 
 pub const REMOVE: u8 = 2;

@@ -1,5 +1,6 @@
-//! What spellings, readers and sizes have to do with each other, each the contract of a function that does nothing.
-ghost use Rattle.set_codec.specs.Laws.{SizeIsLength, SetSizeIsLength, SpelledBatchIsRead, BatchReadIsSpelled, SpelledPacketIsRead, PacketReadIsSpelled, NoBatchBeginsAnother, NoPacketBeginsAnother, BatchNotReadIsAtFault, PacketNotReadIsAtFault};
+//! What spellings and sizes have to do with each other, each the contract of a function that does nothing.
+ghost use Rattle.set_codec.specs.Alone.{OneBatchOrFault, OnePacketOrFault, NoBatchBeginsAnother, NoPacketBeginsAnother};
+ghost use Rattle.set_codec.specs.Sizes.{SizeIsLength, SetSizeIsLength};
 
 /// The size of a set's changes and that of a batch are the numbers of bytes of their spellings,
 /// whatever schema they fit.
@@ -8,12 +9,10 @@ pub fn size_is_length()
     ensures batch { SizeIsLength }
 {}
 
-/// What is spelled is read back, and what is read is spelled by exactly the input.
-pub fn reading_undoes_spelling()
-    ensures batch_found { BatchReadIsSpelled }
-    ensures batch_only { SpelledBatchIsRead }
-    ensures packet_found { PacketReadIsSpelled }
-    ensures packet_only { SpelledPacketIsRead }
+/// Bytes are the spelling of one batch, or they have one fault as a batch, and not both; and so for packets.
+pub fn one_answer_for_all_bytes()
+    ensures batch { OneBatchOrFault }
+    ensures packet { OnePacketOrFault }
 {}
 
 /// No spelling of a batch begins another's of the same schema, and no spelling of a packet does, so
@@ -21,10 +20,4 @@ pub fn reading_undoes_spelling()
 pub fn no_spelling_begins_another()
     ensures batch { NoBatchBeginsAnother }
     ensures packet { NoPacketBeginsAnother }
-{}
-
-/// A fault says what is wrong with the bytes, and where; all that stands before it is in order.
-pub fn each_fault_has_its_cause()
-    ensures batch { BatchNotReadIsAtFault }
-    ensures packet { PacketNotReadIsAtFault }
 {}

@@ -20,9 +20,7 @@ mod writing;
 
 pub use batch_reading::read_batch;
 pub use fault::{CodecFault, Limit};
-pub use laws::{
-    each_fault_has_its_cause, no_spelling_begins_another, reading_undoes_spelling, size_is_length,
-};
+pub use laws::{no_spelling_begins_another, one_answer_for_all_bytes, size_is_length};
 pub use packet::{ByteList, Packet, packet_bytes, read_packet};
 pub use size::batch_size;
 pub use writing::batch_bytes;

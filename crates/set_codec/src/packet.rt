@@ -1,49 +1,25 @@
 ghost use Rattle.std.specs.Prelude.{◌≡◌, ◌≤◌, ◌<◌, ◌⊎◌, length, IfOk, IfErr};
 ghost use Rattle.geo_base.specs.declared.limits.TheConstants.{MAX_REGIONS};
+ghost use Rattle.geo_base.specs.Results.{Gives};
+ghost use Rattle.row_codec.specs.Answers.{Reads, Refuses};
 ghost use Rattle.set_codec.specs.declared.fault.CodecFault.TheVariants as fault;
+ghost use Rattle.set_codec.specs.Alone.{SpellsPacket};
 ghost use Rattle.set_codec.specs.Faults.{IsPacketFault};
 ghost use Rattle.set_codec.specs.Fits.{FitsPacket};
 ghost use Rattle.set_codec.specs.Spelling.{packet_spelling};
-ghost use Rattle.set_codec.specs.Reading.{Gives, batch_packet_at, fetch_packet_at, packet_at};
+ghost use Rattle.set_codec.specs.inner.Reading.{batch_packet_at, fetch_packet_at, packet_at};
 
-use crate::batch_reading::{read_batch_from, read_end, test_size};
+use crate::batch_reading::read_batch_at;
 use crate::fault::CodecFault;
-use crate::fields::{read_byte, read_epoch, read_region};
+use crate::fields::{read_end, read_epoch, read_other, read_region};
 use crate::kind;
-use geo_base::{Epoch, NoMemory, RegionNo};
+use geo_base::{Epoch, Many, NoMemory, RegionNo};
 use geo_schema::Schema;
+use row_codec::fields::read_byte;
 use std::alloc::Global;
-use std::marker::Model;
 
-/// Bytes in a packet. Contracts see the list.
-#[derive(Debug, Drop)]
-pub struct ByteList {
-    items: Vec<u8>,
-}
-
-impl Model for ByteList {
-    ghost use Rattle.std.specs.Prelude.{List, ℕ};
-
-    ghost Value = { List ℕ };
-
-    ghost view = { λ l. l.items.items };
-}
-
-impl ByteList {
-    /// These bytes. Whether they spell a batch isn't tested.
-    pub fn new(items: Vec<u8>) -> ByteList
-        ensures { result ≡ items.items }
-    {
-        ByteList { items }
-    }
-
-    /// The bytes, from the first on.
-    pub fn items(&self) -> &[u8]
-        ensures { result.now ≡ self.now }
-    {
-        self.items.as_slice()
-    }
-}
+/// Bytes in a packet.
+pub type ByteList = Many<u8>;
 
 /// What one region sends to another.
 #[derive(Debug, Drop)]
@@ -80,7 +56,7 @@ pub fn packet_bytes(alloc: Global, packet: &Packet) -> Result<Vec<u8>, NoMemory>
 }
 
 /// A packet with a batch, whose kind was read.
-#[tactic(auto, unfolding(crate::specs::Reading::batch_packet_at))]
+#[tactic(auto, unfolding(crate::specs::inner::Reading::batch_packet_at))]
 fn read_batch_packet(
     alloc: Global,
     schema: &Schema,
@@ -89,11 +65,10 @@ fn read_batch_packet(
     at: usize,
 ) -> Result<Packet, CodecFault>
     requires { at ≤ length bytes.now }
-    ensures exact { Gives (λ p. p) result (batch_packet_at schema.now regions bytes.now at) }
+    ensures exact { Gives fault.NoMemory (λ p. p) result (batch_packet_at schema.now regions bytes.now at) }
 {
     let (to, next) = read_region(bytes, at, regions)?;
-    test_size(bytes, next)?;
-    read_batch_from(alloc, schema, regions, Some(to), bytes, next)?;
+    read_batch_at(alloc, schema, regions, Some(to), bytes, next)?;
     let bytes = Vec::from_slice(alloc, &bytes[next..])?;
     Ok(Packet::Batch {
         to,
@@ -102,31 +77,28 @@ fn read_batch_packet(
 }
 
 /// A packet that asks for a batch, whose kind was read.
-#[tactic(auto, unfolding(crate::specs::Reading::fetch_packet_at))]
+#[tactic(auto, unfolding(crate::specs::inner::Reading::fetch_packet_at))]
 fn read_fetch_packet(bytes: &[u8], at: usize, regions: u8) -> Result<Packet, CodecFault>
     requires { at ≤ length bytes.now }
-    ensures exact { Gives (λ p. p) result (fetch_packet_at regions bytes.now at) }
+    ensures exact { Gives fault.NoMemory (λ p. p) result (fetch_packet_at regions bytes.now at) }
 {
     let (from, place) = read_region(bytes, at, regions)?;
-    let (to, next) = read_region(bytes, place, regions)?;
-    if to == from {
-        return Err(CodecFault::BadTag(place));
-    }
+    let (to, next) = read_other(bytes, place, regions, Some(from), place)?;
     let (epoch, next) = read_epoch(bytes, next)?;
     read_end(Packet::Fetch { from, to, epoch }, bytes, next)
 }
 
 /// The packet of the kind that the first byte names.
-#[tactic(auto, unfolding(crate::specs::Reading::packet_at))]
+#[tactic(auto, unfolding(crate::specs::inner::Reading::packet_at))]
 fn read_of_kind(
     alloc: Global,
     schema: &Schema,
     regions: u8,
     bytes: &[u8],
 ) -> Result<Packet, CodecFault>
-    ensures exact { Gives (λ p. p) result (packet_at schema.now regions bytes.now) }
+    ensures exact { Gives fault.NoMemory (λ p. p) result (packet_at schema.now regions bytes.now) }
 {
-    let (tag, next) = read_byte(bytes, 0)?;
+    let (tag, next) = read_byte::<CodecFault>(bytes, 0)?;
     match tag {
         kind::BATCH => read_batch_packet(alloc, schema, regions, bytes, next),
         kind::FETCH => read_fetch_packet(bytes, next, regions),
@@ -144,10 +116,11 @@ pub fn read_packet(
     regions: u8,
     bytes: &[u8],
 ) -> Result<Packet, CodecFault>
-    ensures exact { Gives (λ p. p) result (packet_at schema.now regions bytes.now) }
     ensures fits { IfOk result (λ packet. regions ≤ MAX_REGIONS → FitsPacket schema.now regions packet) }
     ensures spelled { IfOk result (λ packet. packet_spelling packet ≡ bytes.now) }
+    ensures only { Reads fault.NoMemory (λ p. p) result (SpellsPacket schema.now regions bytes.now) }
     ensures fault { IfErr result (λ e. (e ≡ fault.NoMemory) ⊎ IsPacketFault schema.now regions bytes.now e) }
+    ensures refused { Refuses fault.NoMemory result (IsPacketFault schema.now regions bytes.now) }
 {
     // The call says that the tables are a schema's.
     let _tables = schema.count();

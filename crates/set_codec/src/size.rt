@@ -1,4 +1,6 @@
+//! Sizes, counted without bytes.
 ghost use Rattle.std.specs.Prelude.{◌≡◌, min, sum_by};
+ghost use Rattle.set_codec.specs.Sizes.{CountsBytes};
 ghost use Rattle.write_set.specs.Sizes.{candidate_size, batch_size};
 
 use write_set::{Batch, Candidate};
@@ -16,7 +18,8 @@ fn candidates_size(items: &[Candidate]) -> u64
 /// The number of bytes of the spelling of a batch, or the greatest number where they are more than that.
 /// The cost is the number of cells.
 pub fn batch_size(batch: &Batch) -> u64
-    ensures { result ≡ min (batch_size batch.now.items) u64.MAX }
+    ensures counts { CountsBytes u64.MAX batch.now result }
+    ensures size { result ≡ min (batch_size batch.now.items) u64.MAX }
 {
     candidates_size(batch.items.items()).saturating_add(13)
 }

@@ -1,4 +1,4 @@
--- The place of a column in the key.
+-- Laws: the place of a column in the key.
 use Rattle.std.proofs.Common.{◌≡◌, ℕ, ◌<◌, Bool, true, false, cond, ltb, nat_eq, Option, Some, None, List, length, get_or, position, refl, subst, ap, ◌∙◌, arith}
 use Rattle.std.specs.List.{position_or_len}
 use Rattle.std.proofs.lemmas.Bool.{ltb-true, eqb-true, eq-eqb, lt-ltb}
@@ -7,10 +7,8 @@ use Rattle.std.proofs.lemmas.List.Folds.{list_any_at, list_any_none}
 use Rattle.std.proofs.lemmas.List.Sums.{passes_at_first, position_or_len_is}
 use Rattle.geo_schema.specs.declared.table.TableDef.{TableDef}
 use Rattle.geo_schema.specs.Rows.{is_in}
-use Rattle.geo_schema.specs.Tables.{is_table}
-use Rattle.geo_schema.proofs.Apart.{are_apart}
-use Rattle.geo_schema.proofs.Places.{none_passes}
-use Rattle.set_codec.proofs.BatchLengths.{no_repeat}
+use Rattle.geo_schema.specs.Tables.{IsTable}
+use Rattle.geo_schema.specs.laws.Places.{none_passes}
 
 abbrev pub place_in : List ℕ → ℕ → Option ℕ
 place_in key place = position (λ p. nat_eq p place) key
@@ -32,10 +30,10 @@ pub not_in_key : (key : List ℕ) (place : ℕ) → place_in key place ≡ None 
 not_in_key key place e = list_any_none (λ p. nat_eq p place) key (λ k d lt. none_passes (λ p. nat_eq p place) key k d e lt)
 
 -- each place of a table's key is found where it stands
-pub place_of : (table : TableDef) (j : ℕ) → is_table table ≡ true → j < length table.key → place_in table.key (get_or table.key j 0) ≡ Some j
+pub place_of : (table : TableDef) (j : ℕ) → IsTable table → j < length table.key → place_in table.key (get_or table.key j 0) ≡ Some j
 place_of table j h within =
     let key = table.key in
     let place = get_or key j 0 in
     let is : position_or_len (λ p. nat_eq p place) key ≡ j =
-    position_or_len_is (λ p. nat_eq p place) key j 0 (omega (arith, within)) (λ k lt. are_apart nat_eq key k j 0 (no_repeat table h) lt within) (λ _. eq-eqb _ _ refl) in
+    position_or_len_is (λ p. nat_eq p place) key j 0 (omega (arith, within)) (λ k lt. h.key.apart k j 0 lt within) (λ _. eq-eqb _ _ refl) in
     ap (λ (n : ℕ). cond (ltb n (length key)) (Some n) None) is ∙ ap (λ (b : Bool). cond b (Some j) None) (lt-ltb j (length key) within)

@@ -1,0 +1,85 @@
+-- The rules of the format, each stated once. What stands keeps them, and a fault is that one is broken.
+use Rattle.std.specs.Prelude.{◌≡◌, ◌⊎◌, ℕ, ◌+◌, ◌<◌, ◌≤◌, false, Option, Some, None, List, [], length, slice_index_or}
+use Rattle.std.specs.declared.cmp.Ordering.TheVariants as order
+use Rattle.geo_base.specs.declared.limits.TheConstants.{MAX_AGE, MAX_CANDIDATES, MAX_BATCH_BYTES, MAX_SET_ROWS, MAX_SET_BYTES, LAST_EPOCH}
+use Rattle.geo_base.specs.declared.cell.Cell.{Cell}
+use Rattle.geo_base.specs.declared.row_id.RowId.{RowId}
+use Rattle.geo_base.specs.Order.{row_cmp}
+use Rattle.geo_schema.specs.declared.column.ColumnDef.{ColumnDef}
+use Rattle.geo_schema.specs.declared.column.Kind.TheVariants as kind
+use Rattle.geo_schema.specs.declared.table.TableDef.{TableDef}
+use Rattle.geo_schema.specs.Rows.{Suits}
+use Rattle.set_codec.specs.declared.kind.Kind.{Kind}
+use Rattle.set_codec.specs.Spelling.{mark, kind_byte}
+
+-- ---- batches and packets
+
+-- a batch begins with the mark
+abbrev pub IsMark : List ℕ → Type 0
+IsMark bytes = bytes ≡ mark
+
+-- a region is one of so many
+abbrev pub IsRegionOf : ℕ → ℕ → Type 0
+IsRegionOf regions region = region < regions
+
+-- a region isn't the one that a batch goes to, or that asks
+abbrev pub IsOther : Option ℕ → ℕ → Type 0
+IsOther None region = Unit {0}
+IsOther (Some to) region = ¬ (region ≡ to)
+
+-- an epoch can be sealed: it is one from 1 on, below the last that can be open
+abbrev pub IsSealable : ℕ → Type 0
+IsSealable epoch = (1 ≤ epoch) × (epoch < LAST_EPOCH)
+
+-- a batch has no more candidates than a region seals in an epoch
+abbrev pub IsCandidateCount : ℕ → Type 0
+IsCandidateCount count = count ≤ MAX_CANDIDATES
+
+-- a batch has no more bytes than the limit
+abbrev pub IsBatchSize : ℕ → Type 0
+IsBatchSize bytes = bytes ≤ MAX_BATCH_BYTES
+
+-- a packet has a batch or asks for one
+abbrev pub IsPacketKind : ℕ → Type 0
+IsPacketKind kind = (kind ≡ 1) ⊎ (kind ≡ 2)
+
+-- nothing is behind the end
+abbrev pub IsEnd : List ℕ → ℕ → Type 0
+IsEnd bytes at = length bytes ≤ at
+
+-- ---- candidates
+
+-- a candidate of the epoch starts before it, and not too long before it
+abbrev pub IsStartOf : ℕ → ℕ → Type 0
+IsStartOf epoch start = (start < epoch) × (epoch ≤ start + MAX_AGE)
+
+-- a candidate has a row, and no more than the limit
+abbrev pub IsRowCount : ℕ → Type 0
+IsRowCount rows = (1 ≤ rows) × (rows ≤ MAX_SET_ROWS)
+
+-- a candidate's changes have no more bytes than the limit
+abbrev pub IsSetSize : ℕ → Type 0
+IsSetSize bytes = bytes ≤ MAX_SET_BYTES
+
+-- ---- changes
+
+-- a table is one of the schema's
+abbrev pub IsTableOf : List TableDef → ℕ → Type 0
+IsTableOf tables table = table < length tables
+
+-- a byte is that of a kind of change
+abbrev pub IsKind : ℕ → Type 0
+IsKind byte = (kind : Kind) × (byte ≡ kind_byte kind)
+
+-- a row is greater than the one before it, if there is one
+abbrev pub IsAfter : Option RowId → RowId → Type 0
+IsAfter None row = Unit {0}
+IsAfter (Some last) row = row_cmp last row ≡ order.Less
+
+-- a column of nothing, which no table has
+abbrev pub no_column : ColumnDef
+no_column = record { name = []; kind = kind.Int; not_null = false }
+
+-- a cell is one that suits the column of the table at the place
+abbrev pub IsTaken : TableDef → ℕ → Cell → Type 0
+IsTaken table place c = Suits table.key (slice_index_or table.columns place no_column) place c
