@@ -1,9 +1,13 @@
--- The row of the last change, and rows that rise.
-use Rattle.std.proofs.Common.{◌≡◌, ℕ, ◌-◌, Some, List, [], ◌∷◌, ◌++◌, length, suc, refl, sym, ap, subst, ◌∙◌, arith}
+-- The row of the last change, and the change that is read behind it.
+use Rattle.std.proofs.Common.{◌≡◌, ℕ, ◌-◌, Option, Some, List, [], ◌∷◌, ◌++◌, length, suc, Ok, refl, sym, ap, subst, ◌∙◌, arith}
 use Rattle.std.specs.Option.{option_map}
 use Rattle.std.specs.List.{slice_get}
+use Rattle.geo_base.specs.declared.row_id.RowId.{RowId}
+use Rattle.geo_base.specs.Results.{Fails}
+use Rattle.geo_schema.specs.declared.table.TableDef.{TableDef}
 use Rattle.write_set.specs.Sets.{ChangeOfRow}
-use Rattle.set_codec.specs.Reading.{last_row}
+use Rattle.set_codec.specs.declared.fault.CodecFault.{CodecFault}
+use Rattle.set_codec.specs.inner.Reading.{last_row, change_at}
 
 pub last_pushed : (front : List ChangeOfRow) (c : ChangeOfRow) → last_row (front ++ c ∷ []) ≡ Some c.0
 last_pushed [] c = refl
@@ -19,3 +23,10 @@ last_got (a ∷ b ∷ cs) =
 
 pub last_is : (changes : List ChangeOfRow) (c : ChangeOfRow) → slice_get changes (length changes - 1) ≡ Some c → Some c.0 ≡ last_row changes
 last_is changes c e = sym (ap (option_map (λ (d : ChangeOfRow). d.0)) e) ∙ last_got changes
+
+module _ (tables : List TableDef) (bytes : List ℕ) (next : ℕ) (last : Option RowId) (front : List ChangeOfRow) where
+  pub read_behind : (x : ChangeOfRow × ℕ) → last ≡ last_row front → change_at tables last bytes next ≡ Ok x → change_at tables (last_row front) bytes next ≡ Ok x
+  read_behind x is e = subst (λ (o : Option RowId). change_at tables o bytes next ≡ Ok x) is e
+
+  pub fails_behind : (no_memory e : CodecFault) → last ≡ last_row front → Fails no_memory e (change_at tables last bytes next) → Fails no_memory e (change_at tables (last_row front) bytes next)
+  fails_behind no_memory e is h = subst (λ (o : Option RowId). Fails no_memory e (change_at tables o bytes next)) is h

@@ -6,4 +6,4 @@ pub mod Changes
 pub mod Candidates
 pub mod Batches
 pub mod Packets
--- pub mod Lengths
+pub mod Lengths

@@ -37,11 +37,14 @@ fn read_candidate(
     if next.saturating_sub(from) as u64 > MAX_SET_BYTES {
         return Err(CodecFault::OverLimit(at, Limit::SetBytes));
     }
+    // The call says that the tables are a schema's, so that what was read is a set.
+    let _tables = schema.count();
     let set = WriteSet::from_changes(changes);
     Ok((Candidate { start, set }, next))
 }
 
 /// So many candidates, one after another.
+#[tactic(auto, unfolding(crate::specs::inner::Reading::candidates_at))]
 fn read_candidates(
     alloc: Global,
     schema: &Schema,

@@ -108,6 +108,7 @@ fn last_row(changes: &[(RowId, Change)]) -> Option<&RowId>
 }
 
 /// So many changes, of rows that rise.
+#[tactic(auto, unfolding(crate::specs::inner::Reading::changes_at))]
 pub(crate) fn read_changes(
     alloc: Global,
     schema: &Schema,

@@ -50,6 +50,7 @@ fn read_taken(
 }
 
 /// The cells of a key of the table.
+#[tactic(auto, unfolding(crate::specs::inner::Reading::key_at))]
 fn read_key_cells(
     alloc: Global,
     table: &TableDef,
@@ -123,7 +124,7 @@ fn read_row_cell(
 }
 
 /// The row with that key, of which the other cells are read.
-#[tactic(auto, using(crate::specs::laws::Rows::columns_are_few))]
+#[tactic(auto, using(crate::specs::laws::Rows::columns_are_few), unfolding(crate::specs::inner::Reading::row_at))]
 pub(crate) fn read_row(
     alloc: Global,
     table: &TableDef,

@@ -17,6 +17,7 @@ fn candidates_size(items: &[Candidate]) -> u64
 
 /// The number of bytes of the spelling of a batch, or the greatest number where they are more than that.
 /// The cost is the number of cells.
+#[tactic(auto, using(crate::specs::laws::Lengths::counts_bytes))]
 pub fn batch_size(batch: &Batch) -> u64
     ensures counts { CountsBytes u64.MAX batch.now result }
     ensures size { result ≡ min (batch_size batch.now.items) u64.MAX }

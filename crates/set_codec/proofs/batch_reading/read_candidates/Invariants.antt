@@ -1,6 +1,6 @@
 use Rattle.std.proofs.Common.{◌≤◌, ◌-◌, length}
-use Rattle.set_codec.specs.Reading.{candidates_at}
-use Rattle.set_codec.proofs.Loop.{ComesTo}
+use Rattle.row_codec.specs.inner.Things.{ComesTo}
+use Rattle.set_codec.specs.inner.Reading.{candidates_at}
 use Rattle.set_codec.proofs.batch_reading.read_candidates.Given as goal
 
 abbrev pub invariant-loop : goal.invariant-loop

@@ -1,5 +1,5 @@
-use Rattle.set_codec.proofs.BatchReads.{batch_alone}
-use Rattle.set_codec.proofs.PacketReads.{packet_alone}
+use Rattle.set_codec.specs.laws.Batches.{batch_alone}
+use Rattle.set_codec.specs.laws.Packets.{packet_alone}
 use Rattle.set_codec.proofs.laws.no_spelling_begins_another.Goals as goal
 
 pub returns-clause-batch : goal.returns-clause-batch

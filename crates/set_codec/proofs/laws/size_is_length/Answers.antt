@@ -1,4 +1,4 @@
-use Rattle.set_codec.proofs.BatchLengths.{set_size_is_length, size_is_length}
+use Rattle.set_codec.specs.laws.Lengths.{set_size_is_length, size_is_length}
 use Rattle.set_codec.proofs.laws.size_is_length.Goals as goal
 
 pub returns-clause-set : goal.returns-clause-set
