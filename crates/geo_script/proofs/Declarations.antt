@@ -1,5 +1,5 @@
 -- Lines that declare tables and indexes, and what is read of them.
-use Rattle.std.proofs.Common.{◌≡◌, ℕ, ◌<◌, ◌≤◌, ◌==◌, Bool, true, false, cond, List, [], ◌∷◌, ◌++◌, length, Option, Some, None, Result, Ok, Err, nat_le, refl, sym, ap, ◌∙◌, subst, arith, inl, inr}
+use Rattle.std.proofs.Common.{◌≡◌, ℕ, ◌<◌, ◌≤◌, ◌==◌, Bool, true, false, cond, List, [], ◌∷◌, ◌++◌, length, Option, Some, None, Ok, Err, nat_le, refl, sym, ap, ◌∙◌, subst, arith, inl, inr}
 use Rattle.std.specs.Prelude.{codes, is_none}
 use Rattle.std.specs.List.{slice_split}
 use Rattle.std.specs.Option.{option_map, option_and_then, ok_or}
@@ -11,17 +11,14 @@ use Rattle.geo_base.specs.declared.limits.TheConstants.{MAX_COLUMNS}
 use Rattle.geo_schema.specs.declared.column.ColumnDef.{ColumnDef}
 use Rattle.geo_schema.specs.declared.index.IndexDef.{IndexDef}
 use Rattle.geo_schema.specs.declared.table.TableDef.{TableDef}
-use Rattle.geo_schema.specs.Schemas.{schema_fault, IsSchema, number_of, table_at}
-use Rattle.sql_lex.specs.declared.token.LexFault.{LexFault}
-use Rattle.sql_lex.specs.declared.token.Token.{Token}
-use Rattle.sql_lex.specs.Tokens.{tokens_of}
-use Rattle.sql_lex.proofs.Cuts.{tokens_are_cut, cut_is_tokens}
+use Rattle.geo_schema.specs.Schemas.{IsSchema, number_of, table_at}
+use Rattle.geo_schema.specs.inner.Schemas.{schema_fault}
 use Rattle.geo_script.specs.declared.column.Column.{Column}
 use Rattle.geo_script.specs.declared.fault.ScriptKind.{ScriptKind}
 use Rattle.geo_script.specs.declared.fault.ScriptKind.TheVariants.{NotUtf8, BadLine, BadTable, BadIndex}
 use Rattle.geo_script.specs.declared.mark.Mark.{Mark}
 use Rattle.geo_script.specs.declared.mark.Mark.TheVariants as mark
-use Rattle.geo_script.specs.Marks.{if_tokens, marks_of, is_comma, is_close}
+use Rattle.geo_script.specs.Marks.{marks_of, is_comma, is_close}
 use Rattle.geo_script.specs.Spelling.{IsColumn, IsNamedList, HasMarks, DeclaresTable, DeclaresIndex, AreAtPlaces, Declares}
 use Rattle.geo_script.specs.TableLines.{column_of, before_close, listed, each, table_with, columns_of, table_of, if_schema, with_table, name_of, index_name, named_list, column_place, filled, first_word, index_parts, add_index, index_with, index_at, index_of, with_index, alone, declared, by_word, declared_by, table_line}
 use Rattle.geo_script.specs.Words.{cut}
@@ -30,22 +27,9 @@ use Rattle.geo_script.proofs.Columns.{column_is, column_read}
 use Rattle.geo_script.proofs.Cuts.{Lacks, cut_at, cut_parts}
 use Rattle.geo_script.proofs.Inversions.{step_ok, or_ok, then_some, map_some, if_ok, unless_ok, when_ok, if_some, when_some, some_same}
 use Rattle.geo_script.proofs.NameTokens.{name_word}
-use Rattle.geo_script.proofs.SchemaTables.{few_columns_at}
+use Rattle.geo_script.proofs.SchemaTables.{few_columns_at, faultless_kept, schema_faultless}
+use Rattle.geo_script.proofs.TextMarks.{marks_are, marks_read}
 use Rattle.geo_script.proofs.MarkLists.{IsCommaFree, column_free, items_are, items_read, items_count}
-
--- ---- marks of a text
-
-marks_from : (text : List ℕ) (marks : List Mark) (r : Result (List Token) LexFault) → tokens_of text ≡ r → if_tokens r ≡ Some marks → HasMarks text marks
-marks_from text marks (Ok tokens) is found = (tokens, tokens_are_cut text tokens is, sym (some_same found))
-marks_from text marks (Err fault) is found = cc
-
-marks_are : (text : List ℕ) (marks : List Mark) → marks_of text ≡ Some marks → HasMarks text marks
-unfolding marks_of
-marks_are text marks is = marks_from text marks (tokens_of text) refl is
-
-marks_read : (text : List ℕ) (marks : List Mark) → HasMarks text marks → marks_of text ≡ Some marks
-unfolding marks_of
-marks_read text marks (tokens, are, is) = rw (cut_is_tokens text tokens are) (ap Some (sym is))
 
 -- ---- lists in parentheses
 
@@ -128,10 +112,6 @@ table_read name columns marks (inner, whole, items) few =
 
 -- ---- schemas
 
-none_is : {A : Type 0} (o : Option A) → is_none o ≡ true → o ≡ None
-none_is None is = refl
-none_is (Some x) is = cc
-
 record IsKept (tables more : List TableDef) : Type 0 where
   same : tables ≡ more
   schema : IsSchema more
@@ -139,10 +119,10 @@ record IsKept (tables more : List TableDef) : Type 0 where
 kept_is : (kind : ScriptKind) (tables more : List TableDef) → if_schema kind tables ≡ Ok more → IsKept tables more
 kept_is kind tables more is =
     let found = if_ok (is_none (schema_fault tables)) tables more kind is in
-    record { same = found.1; schema = subst IsSchema found.1 (none_is (schema_fault tables) found.0) }
+    record { same = found.1; schema = subst IsSchema found.1 (faultless_kept tables found.0) }
 
 kept_read : (kind : ScriptKind) (tables : List TableDef) → IsSchema tables → if_schema kind tables ≡ Ok tables
-kept_read kind tables schema = rw schema refl
+kept_read kind tables schema = rw (schema_faultless tables schema) refl
 
 -- ---- lines that declare tables
 

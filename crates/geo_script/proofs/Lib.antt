@@ -5,6 +5,7 @@ pub mod Lists
 pub mod EventLists
 pub mod Closing
 pub mod SchemaTables
+pub mod TextMarks
 pub mod Inversions
 pub mod Cuts
 pub mod Decimals

@@ -10,7 +10,8 @@ use Rattle.geo_schema.specs.declared.column.Kind.{Kind}
 use Rattle.geo_schema.specs.declared.column.Kind.TheVariants as kind
 use Rattle.geo_schema.specs.declared.index.IndexDef.{IndexDef}
 use Rattle.geo_schema.specs.declared.table.TableDef.{TableDef}
-use Rattle.geo_schema.specs.Schemas.{schema_fault, number_of, table_at}
+use Rattle.geo_schema.specs.Schemas.{number_of, table_at}
+use Rattle.geo_schema.specs.inner.Schemas.{schema_fault}
 use Rattle.geo_script.specs.declared.column.Column.{Column}
 use Rattle.geo_script.specs.declared.column.Typed.{Typed}
 use Rattle.geo_script.specs.declared.fault.ScriptKind.{ScriptKind}

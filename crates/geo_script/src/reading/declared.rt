@@ -1,7 +1,7 @@
 //! The lines that declare tables and indexes.
 ghost use Rattle.std.specs.Prelude.{◌≡◌, ◌+◌, ◌<◌, ◌^◌, [], None, Ok, Err, length, codes, IfOk, MatchResult};
 ghost use Rattle.std.specs.Str.{bytes_eq};
-ghost use Rattle.geo_schema.specs.Schemas.{schema_fault};
+ghost use Rattle.geo_schema.specs.Schemas.{IsSchema};
 ghost use Rattle.geo_script.specs.Answers.{Answers, spoken, number_after};
 ghost use Rattle.geo_script.specs.Scripts.{head_of};
 ghost use Rattle.geo_script.specs.TableLines as spec;
@@ -36,11 +36,11 @@ fn declared_by(
     text: &str,
 ) -> Result<Result<Vec<TableDef>, ScriptKind>, NoMemory>
     requires text { length text.now < 2 ^ 32 }
-    requires schema { schema_fault tables.items ≡ None }
+    requires schema { IsSchema tables.items }
     ensures tables { IfOk result (λ found. MatchResult found
         (λ more. spec.declared_by tables.items text.now ≡ Ok more.items)
         (λ fault. spec.declared_by tables.items text.now ≡ Err fault)) }
-    ensures schema { IfOk result (λ found. IfOk found (λ more. schema_fault more.items ≡ None)) }
+    ensures schema { IfOk result (λ found. IfOk found (λ more. IsSchema more.items)) }
 {
     let Some((word, rest)) = cut_at_space(text) else {
         return Ok(Err(alone(text)));
@@ -62,11 +62,11 @@ fn table_line(
     line: &[u8],
 ) -> Result<Result<Vec<TableDef>, ScriptKind>, NoMemory>
     requires line { length line.now < 2 ^ 32 }
-    requires schema { schema_fault tables.items ≡ None }
+    requires schema { IsSchema tables.items }
     ensures tables { IfOk result (λ found. MatchResult found
         (λ more. spec.table_line tables.items line.now ≡ Ok more.items)
         (λ fault. spec.table_line tables.items line.now ≡ Err fault)) }
-    ensures schema { IfOk result (λ found. IfOk found (λ more. schema_fault more.items ≡ None)) }
+    ensures schema { IfOk result (λ found. IfOk found (λ more. IsSchema more.items)) }
 {
     match text_of(line) {
         Ok(text) => declared_by(alloc, tables, text),
@@ -85,7 +85,7 @@ fn is_begin(line: &[u8]) -> bool
 pub fn read_tables(alloc: Global, rest: Rest<'_>) -> Result<(Vec<TableDef>, Rest<'_>), ReadFault>
     requires { rest.number + length rest.bytes.now < 2 ^ 32 }
     ensures head { Answers (λ head. (head.0.items, spoken head.1)) result (head_of (number_after rest.entry) [] (spoken rest.entry)) }
-    ensures schema { IfOk result (λ head. schema_fault head.0.items ≡ None) }
+    ensures schema { IfOk result (λ head. IsSchema head.0.items) }
     ensures room { IfOk result (λ head. head.1.number + length head.1.bytes.now < 2 ^ 32) }
 {
     let mut tables = Vec::new(alloc);

@@ -1,7 +1,6 @@
 //! The lines up to `begin`.
 ghost use Rattle.std.specs.Prelude.{◌≡◌, ◌+◌, ◌≤◌, ◌<◌, ◌^◌, ◌∷◌, [], None, Ok, Err, length, IfOk, MatchResult, codes};
 ghost use Rattle.geo_base.specs.declared.limits.TheConstants.{MAX_REGIONS};
-ghost use Rattle.geo_schema.specs.Schemas.{schema_fault};
 ghost use Rattle.geo_script.specs.Answers.{Answers, spoken, number_after};
 ghost use Rattle.geo_script.specs.Scripts as spec;
 

@@ -2,7 +2,7 @@
 ghost use Rattle.std.specs.Prelude.{◌≡◌, ◌≤◌, ◌<◌, ◌^◌, Some, None, Ok, Err, map, length, codes, IfOk, IfSome, MatchOption, MatchResult};
 ghost use Rattle.std.specs.Option.{option_map, option_and_then};
 ghost use Rattle.geo_base.specs.declared.limits.TheConstants.{MAX_COLUMNS};
-ghost use Rattle.geo_schema.specs.Schemas.{number_of, schema_fault};
+ghost use Rattle.geo_schema.specs.Schemas.{IsSchema, number_of};
 ghost use Rattle.geo_script.specs.Marks as marks_spec;
 ghost use Rattle.geo_script.specs.TableLines as spec;
 
@@ -194,7 +194,7 @@ fn index_at(
     text: &str,
 ) -> Result<Option<(usize, IndexDef)>, NoMemory>
     requires text { length text.now < 2 ^ 32 }
-    requires schema { schema_fault tables.now ≡ None }
+    requires schema { IsSchema tables.now }
     ensures index { IfOk result (λ found. found ≡ spec.index_at tables.now name text.now) }
     ensures within { IfOk result (λ found. IfSome found (λ index. index.0 < length tables.now)) }
 {
@@ -220,7 +220,7 @@ fn index_of(
 ) -> Result<Option<(usize, IndexDef)>, NoMemory>
     requires word { length word.now < 2 ^ 32 }
     requires text { length text.now < 2 ^ 32 }
-    requires schema { schema_fault tables.now ≡ None }
+    requires schema { IsSchema tables.now }
     ensures index { IfOk result (λ found. found ≡ spec.index_of tables.now word.now text.now) }
     ensures within { IfOk result (λ found. IfSome found (λ index. index.0 < length tables.now)) }
 {
@@ -254,11 +254,11 @@ pub fn with_index(
     text: &str,
 ) -> Result<Result<Vec<TableDef>, ScriptKind>, NoMemory>
     requires text { length text.now < 2 ^ 32 }
-    requires schema { schema_fault tables.items ≡ None }
+    requires schema { IsSchema tables.items }
     ensures tables { IfOk result (λ found. MatchResult found
         (λ more. spec.with_index tables.items text.now ≡ Ok more.items)
         (λ fault. spec.with_index tables.items text.now ≡ Err fault)) }
-    ensures schema { IfOk result (λ found. IfOk found (λ more. schema_fault more.items ≡ None)) }
+    ensures schema { IfOk result (λ found. IfOk found (λ more. IsSchema more.items)) }
 {
     let (word, list) = match index_parts(text) {
         Ok(parts) => parts,

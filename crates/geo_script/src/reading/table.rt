@@ -2,7 +2,8 @@
 ghost use Rattle.std.specs.Prelude.{◌≡◌, ◌≤◌, ◌<◌, ◌^◌, ◌+◌, ◌++◌, ◌∷◌, [], Some, None, Ok, Err, map, length, is_none, IfOk, IfSome, MatchResult};
 ghost use Rattle.std.specs.Option.{option_map, option_and_then};
 ghost use Rattle.geo_base.specs.declared.limits.TheConstants.{MAX_COLUMNS};
-ghost use Rattle.geo_schema.specs.Schemas.{schema_fault};
+ghost use Rattle.geo_schema.specs.Schemas.{IsSchema};
+ghost use Rattle.geo_schema.specs.inner.Schemas.{schema_fault};
 ghost use Rattle.geo_script.specs.Marks as marks_spec;
 ghost use Rattle.geo_script.specs.TableLines as spec;
 
@@ -121,6 +122,7 @@ pub fn declared_table(alloc: Global, text: &str) -> Result<Option<TableDef>, NoM
 }
 
 /// Whether the tables are a schema. Works on a copy of them, of which a schema has at most 64.
+#[tactic(auto, using(crate::proofs::SchemaTables::schema_faultless, crate::proofs::SchemaTables::fault_found))]
 pub fn are_schema(alloc: Global, tables: &[TableDef]) -> Result<bool, NoMemory>
     ensures { IfOk result (λ are. are ≡ is_none (schema_fault tables.now)) }
 {
@@ -132,6 +134,7 @@ pub fn are_schema(alloc: Global, tables: &[TableDef]) -> Result<bool, NoMemory>
 }
 
 /// The tables, if they are a schema.
+#[tactic(auto, using(crate::proofs::SchemaTables::faultless_kept))]
 pub fn if_schema(
     alloc: Global,
     kind: ScriptKind,
@@ -140,7 +143,7 @@ pub fn if_schema(
     ensures tables { IfOk result (λ found. MatchResult found
         (λ more. spec.if_schema kind tables.items ≡ Ok more.items)
         (λ fault. spec.if_schema kind tables.items ≡ Err fault)) }
-    ensures schema { IfOk result (λ found. IfOk found (λ more. schema_fault more.items ≡ None)) }
+    ensures schema { IfOk result (λ found. IfOk found (λ more. IsSchema more.items)) }
 {
     if are_schema(alloc, tables.as_slice())? {
         Ok(Ok(tables))
@@ -160,7 +163,7 @@ pub fn with_table(
     ensures tables { IfOk result (λ found. MatchResult found
         (λ more. spec.with_table tables.items text.now ≡ Ok more.items)
         (λ fault. spec.with_table tables.items text.now ≡ Err fault)) }
-    ensures schema { IfOk result (λ found. IfOk found (λ more. schema_fault more.items ≡ None)) }
+    ensures schema { IfOk result (λ found. IfOk found (λ more. IsSchema more.items)) }
 {
     match declared_table(alloc, text)? {
         Some(table) => {

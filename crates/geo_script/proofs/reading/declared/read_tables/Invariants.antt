@@ -1,5 +1,5 @@
-use Rattle.std.proofs.Common.{◌≡◌, ◌+◌, ◌<◌, ◌^◌, None, [], length}
-use Rattle.geo_schema.specs.Schemas.{schema_fault}
+use Rattle.std.proofs.Common.{◌≡◌, ◌+◌, ◌<◌, ◌^◌, [], length}
+use Rattle.geo_schema.specs.Schemas.{IsSchema}
 use Rattle.geo_script.specs.Answers.{spoken, number_after}
 use Rattle.geo_script.specs.Scripts.{head_of}
 use Rattle.geo_script.proofs.reading.declared.read_tables.Given as goal
@@ -8,7 +8,7 @@ abbrev pub invariant-loop-next : goal.invariant-loop-next
 invariant-loop-next l = record {
   read : head_of (number_after l.fn.rest) [] (spoken l.fn.rest) ≡ head_of (number_after l.fn.rest) l.tables.items (spoken l.behind);
   number : number_after l.behind ≡ number_after l.fn.rest;
-  schema : schema_fault l.tables.items ≡ None;
+  schema : IsSchema l.tables.items;
   room : l.behind.number + length l.behind.bytes.now < 2 ^ 32;
 }
 
