@@ -2,8 +2,8 @@
 use Rattle.std.proofs.Common.{◌≡◌, Bool, true, false, cond, List, [], ◌∷◌, ◌++◌, Some, None, refl, ap, ◌∙◌}
 use Rattle.std.specs.Option.{option_map}
 use Rattle.geo_script.specs.declared.mark.Mark.{Mark}
-use Rattle.geo_script.specs.Marks.{is_close}
-use Rattle.geo_script.specs.TableLines.{before_close}
+use Rattle.geo_script.specs.inner.Marks.{is_close}
+use Rattle.geo_script.specs.inner.TableLines.{before_close}
 
 onto : (first : Mark) (b : Bool) (marks : List Mark) →
     option_map (λ before. first ∷ before) (cond b (Some marks) None) ≡ cond b (Some (first ∷ marks)) None

@@ -9,8 +9,8 @@ use Rattle.geo_script.specs.declared.column.Column.{Column}
 use Rattle.geo_script.specs.declared.column.Typed.{Typed}
 use Rattle.geo_script.specs.declared.mark.Mark.{Mark}
 use Rattle.geo_script.specs.declared.mark.Mark.TheVariants as mark
-use Rattle.geo_script.specs.Spelling.{IsKind, if_so, IsColumn}
-use Rattle.geo_script.specs.TableLines.{typed, sized, text_column, typed_column, named_column, column_of}
+use Rattle.geo_script.specs.Spelling.{SpellsKind, if_so, SpellsColumn}
+use Rattle.geo_script.specs.inner.TableLines.{typed, sized, text_column, typed_column, named_column, column_of}
 use Rattle.geo_script.proofs.Inversions.{map_some, when_some, some_same}
 
 -- ---- columns
@@ -43,23 +43,23 @@ typed_read of true true = refl
 -- what stands behind a column's name
 record IsTypedColumn (marks : List Mark) (t : Typed) : Type 0 where
   kind : List Mark
-  spells : IsKind t.kind kind
+  spells : SpellsKind t.kind kind
   whole : marks ≡ kind ++ tail_marks t
 
-plain_column : (of : Kind) (word : Mark) (marks : List Mark) (t : Typed) → IsKind of (word ∷ []) → IsTyped of marks t → IsTypedColumn (word ∷ marks) t
+plain_column : (of : Kind) (word : Mark) (marks : List Mark) (t : Typed) → SpellsKind of (word ∷ []) → IsTyped of marks t → IsTypedColumn (word ∷ marks) t
 plain_column of word marks t spells is =
-    record { kind = word ∷ []; spells = subst (λ k. IsKind k (word ∷ [])) (sym is.same) spells; whole = ap (λ ms. word ∷ ms) is.whole }
+    record { kind = word ∷ []; spells = subst (λ k. SpellsKind k (word ∷ [])) (sym is.same) spells; whole = ap (λ ms. word ∷ ms) is.whole }
 
 sized_is : (max : ℤ) (marks : List Mark) (t : Typed) → sized max marks ≡ Some t → IsTypedColumn (mark.Text ∷ mark.Open ∷ mark.Number max ∷ mark.Close ∷ marks) t
 sized_is (pos max) marks t is =
     let fits = when_some (nat_le max MAX_TEXT_BYTES) (typed (kind.Text max) marks) t is in
     let typed = typed_is (kind.Text max) marks t fits.1 in
     let front : List Mark = mark.Text ∷ mark.Open ∷ mark.Number (pos max) ∷ mark.Close ∷ [] in
-    let spells : IsKind (kind.Text max) front = (leb-true max MAX_TEXT_BYTES fits.0, inr refl) in
-    record { kind = front; spells = subst (λ k. IsKind k front) (sym typed.same) spells; whole = ap (λ ms. front ++ ms) typed.whole }
+    let spells : SpellsKind (kind.Text max) front = (leb-true max MAX_TEXT_BYTES fits.0, inr refl) in
+    record { kind = front; spells = subst (λ k. SpellsKind k front) (sym typed.same) spells; whole = ap (λ ms. front ++ ms) typed.whole }
 sized_is (negsuc max) marks t is = cc
 
-all_bytes : IsKind (kind.Text MAX_TEXT_BYTES) (mark.Text ∷ [])
+all_bytes : SpellsKind (kind.Text MAX_TEXT_BYTES) (mark.Text ∷ [])
 all_bytes = (omega arith, inl (refl, refl))
 
 text_column_is : (marks : List Mark) (t : Typed) → text_column marks ≡ Some t → IsTypedColumn (mark.Text ∷ marks) t
@@ -74,17 +74,17 @@ typed_column_is (mark.Text ∷ marks) t is = text_column_is marks t is
 typed_column_is (mark.Bool ∷ marks) t is = plain_column kind.Truth mark.Bool marks t refl (typed_is kind.Truth marks t is)
 typed_column_is _ t is = cc
 
-pub column_is : (marks : List Mark) (column : Column) → column_of marks ≡ Some column → IsColumn column marks
+pub column_is : (marks : List Mark) (column : Column) → column_of marks ≡ Some column → SpellsColumn column marks
 unfolding column_of
 column_is (mark.Name name ∷ marks) column is =
     let found = map_some (named_column name) (typed_column marks) column is in
     let typed = typed_column_is marks found.0 found.1 in
-    subst (λ (c : Column). IsColumn c (mark.Name name ∷ marks)) found.2 record { kind = typed.kind; spells = typed.spells; whole = ap (λ ms. mark.Name name ∷ ms) typed.whole }
+    subst (λ (c : Column). SpellsColumn c (mark.Name name ∷ marks)) found.2 record { kind = typed.kind; spells = typed.spells; whole = ap (λ ms. mark.Name name ∷ ms) typed.whole }
 column_is _ column is = cc
 
 -- ---- columns that are spelled
 
-typed_column_read : (of : Kind) (not_null is_key : Bool) (front : List Mark) → IsKind of front →
+typed_column_read : (of : Kind) (not_null is_key : Bool) (front : List Mark) → SpellsKind of front →
     typed_column (front ++ (if_so not_null (mark.Not ∷ mark.Null ∷ []) ++ if_so is_key (mark.Key ∷ []))) ≡ Some (record { kind = of; not_null = not_null; is_key = is_key })
 unfolding typed_column text_column
 typed_column_read kind.Int not_null is_key front spells = rw spells (typed_read kind.Int not_null is_key)
@@ -95,7 +95,7 @@ typed_column_read (kind.Text max) false true front (few, inl alone) = rw (alone.
 typed_column_read (kind.Text max) true false front (few, inl alone) = rw (alone.1, alone.0) (typed_read (kind.Text MAX_TEXT_BYTES) true false)
 typed_column_read (kind.Text max) true true front (few, inl alone) = rw (alone.1, alone.0) (typed_read (kind.Text MAX_TEXT_BYTES) true true)
 
-pub column_read : (marks : List Mark) (column : Column) → IsColumn column marks → column_of marks ≡ Some column
+pub column_read : (marks : List Mark) (column : Column) → SpellsColumn column marks → column_of marks ≡ Some column
 unfolding column_of
 column_read marks column is =
     rw is.whole (rw (typed_column_read column.def.kind column.def.not_null column.is_key is.kind is.spells) refl)

@@ -3,7 +3,8 @@ use Rattle.std.proofs.Common.{◌≡◌, ℕ, ◌+◌, ◌==◌, Bool, true, fal
 use Rattle.std.specs.List.{list_all, position_or_len}
 use Rattle.std.proofs.lemmas.Bool.{and_parts, lt-ltb, le-ltb, eqb-true}
 use Rattle.std.proofs.lemmas.List.{take_at, drop_at, drop-drop, length-append}
-use Rattle.geo_script.specs.Words.{cut, is_word, two_words, three_words}
+use Rattle.geo_script.specs.inner.Words.{cut, two_words, three_words}
+use Rattle.geo_script.specs.Words.{is_word}
 
 -- none of the bytes is this one
 abbrev pub Lacks : ℕ → List ℕ → Type 0

@@ -11,7 +11,8 @@ use Rattle.std.proofs.lemmas.Fmt.{digits_decimal, digits_value-decimal, decimal-
 use Rattle.std.proofs.lemmas.List.{get_or_default}
 use Rattle.std.proofs.lemmas.List.Sums.{list_all-from_AllPass}
 use Rattle.std.proofs.lemmas.Str.Parse.{IsNumeralModel, numerals_by_value, tells_digits, not_in_digits, digit_at}
-use Rattle.geo_script.specs.Words.{is_numeral, is_word, number_within}
+use Rattle.geo_script.specs.inner.Words.{is_numeral, number_within}
+use Rattle.geo_script.specs.Words.{is_word}
 use Rattle.geo_script.proofs.Cuts.{Lacks}
 use Rattle.geo_script.proofs.Numerals.{all_digits}
 use Rattle.geo_script.proofs.Inversions.{if_some}

@@ -18,10 +18,11 @@ use Rattle.geo_script.specs.declared.fault.ScriptKind.{ScriptKind}
 use Rattle.geo_script.specs.declared.fault.ScriptKind.TheVariants.{NotUtf8, BadLine, BadTable, BadIndex}
 use Rattle.geo_script.specs.declared.mark.Mark.{Mark}
 use Rattle.geo_script.specs.declared.mark.Mark.TheVariants as mark
-use Rattle.geo_script.specs.Marks.{marks_of, is_comma, is_close}
-use Rattle.geo_script.specs.Spelling.{IsColumn, IsNamedList, HasMarks, DeclaresTable, DeclaresIndex, AreAtPlaces, Declares}
-use Rattle.geo_script.specs.TableLines.{column_of, before_close, listed, each, table_with, columns_of, table_of, if_schema, with_table, name_of, index_name, named_list, column_place, filled, first_word, index_parts, add_index, index_with, index_at, index_of, with_index, alone, declared, by_word, declared_by, table_line}
-use Rattle.geo_script.specs.Words.{cut}
+use Rattle.geo_script.specs.inner.Marks.{marks_of, is_comma, is_close}
+use Rattle.geo_script.specs.Spelling.{SpellsColumn, IsNamedList, HasMarks, DeclaresTable, DeclaresIndex, AreAtPlaces, Declares}
+use Rattle.geo_script.specs.inner.TableLines.{column_of, before_close, listed, each, columns_of, table_of, if_schema, with_table, name_of, index_name, named_list, filled, first_word, index_parts, index_with, index_at, index_of, with_index, alone, declared, by_word, declared_by, table_line}
+use Rattle.geo_script.specs.Tables.{table_with, column_place, add_index}
+use Rattle.geo_script.specs.inner.Words.{cut}
 use Rattle.geo_script.proofs.Closing.{closing}
 use Rattle.geo_script.proofs.Columns.{column_is, column_read}
 use Rattle.geo_script.proofs.Cuts.{Lacks, cut_at, cut_parts}
@@ -78,37 +79,37 @@ name_free name marks is = rw is refl
 -- ---- tables
 
 -- the marks are a table's name and its columns
-record IsTable (marks : List Mark) (table : TableDef) : Type 0 where
+record IsTableOf (marks : List Mark) (table : TableDef) : Type 0 where
   columns : List Column
-  spells : IsNamedList IsColumn table.name columns marks
+  spells : IsNamedList SpellsColumn table.name columns marks
   is : table ≡ table_with table.name columns
 
 columns_are : (parts : List (List Mark)) (columns : List Column) → columns_of parts ≡ Some columns → each column_of parts ≡ Some columns
 unfolding columns_of
 columns_are parts columns is = (when_some (nat_le (length parts) MAX_COLUMNS) (each column_of parts) columns is).1
 
-table_is : (marks : List Mark) (table : TableDef) → table_of marks ≡ Some table → IsTable marks table
+table_is : (marks : List Mark) (table : TableDef) → table_of marks ≡ Some table → IsTableOf marks table
 unfolding table_of
 table_is (mark.Name name ∷ marks) table is =
     let found = map_some (table_with name) (option_and_then columns_of (listed marks)) table is in
     let parts = then_some columns_of (listed marks) found.0 found.1 in
     let list = listed_is marks parts.0 parts.1 in
     let columns = columns_are parts.0 found.0 parts.2 in
-    let items = items_are column_of IsColumn column_is list.inner found.0 (ap (each column_of) list.cut ∙ columns) in
-    subst (IsTable (mark.Name name ∷ marks)) found.2 record {
+    let items = items_are column_of SpellsColumn column_is list.inner found.0 (ap (each column_of) list.cut ∙ columns) in
+    subst (IsTableOf (mark.Name name ∷ marks)) found.2 record {
       columns = found.0;
       spells = (list.inner, ap (λ ms. mark.Name name ∷ ms) list.whole, items);
       is = refl;
     }
 table_is _ table is = cc
 
-table_read : (name : List ℕ) (columns : List Column) (marks : List Mark) → IsNamedList IsColumn name columns marks → length columns ≤ MAX_COLUMNS →
+table_read : (name : List ℕ) (columns : List Column) (marks : List Mark) → IsNamedList SpellsColumn name columns marks → length columns ≤ MAX_COLUMNS →
     table_of marks ≡ Some (table_with name columns)
 unfolding table_of columns_of
 table_read name columns marks (inner, whole, items) few =
-    let count = items_count column_of IsColumn column_free columns inner items in
+    let count = items_count column_of SpellsColumn column_free columns inner items in
     let fits : nat_le (length (slice_split is_comma inner)) MAX_COLUMNS ≡ true = le-leb (length (slice_split is_comma inner)) MAX_COLUMNS (omega arith) in
-    rw whole (rw (listed_read inner) (rw (fits, items_read column_of IsColumn column_read column_free columns inner items) refl))
+    rw whole (rw (listed_read inner) (rw (fits, items_read column_of SpellsColumn column_read column_free columns inner items) refl))
 
 -- ---- schemas
 

@@ -8,10 +8,11 @@ use Rattle.std.proofs.lemmas.List.{append-nil}
 use Rattle.std.proofs.lemmas.Slice.Eq.{bytes_eq-Decides}
 use Rattle.geo_script.specs.declared.event.Sealing.{Sealing}
 use Rattle.geo_script.specs.declared.event.Sealing.TheVariants.{No, Kept, Lost}
-use Rattle.geo_script.specs.EventLines.{statement_parts, packet_words, crash_words, sealing_of, after_words}
-use Rattle.geo_script.specs.EventWords.{IsWord, HasStatement, HasTwoWords, HasThreeWords, HasSealing, HasAfter}
+use Rattle.geo_script.specs.inner.EventLines.{statement_parts, packet_words, crash_words, sealing_of, after_words}
+use Rattle.geo_script.specs.Words.{IsWord, is_word}
+use Rattle.geo_script.specs.EventWords.{HasStatement, HasTwoWords, HasThreeWords, HasSealing, HasAfter}
 use Rattle.geo_script.specs.Spelling.{sealing_text}
-use Rattle.geo_script.specs.Words.{cut, is_word, two_words, three_words}
+use Rattle.geo_script.specs.inner.Words.{cut, two_words, three_words}
 use Rattle.geo_script.proofs.Cuts.{cut_at, cut_parts, two, three, word_lacks}
 use Rattle.geo_script.proofs.EventsRead.{no_word, crash_words_read, after_read}
 use Rattle.geo_script.proofs.PlayLines.{sealing_is}

@@ -18,11 +18,12 @@ use Rattle.geo_script.specs.declared.script.Form.{Form}
 use Rattle.geo_script.specs.declared.script.Form.TheVariants.{Play, Run}
 use Rattle.geo_script.specs.declared.verb.Verb.{Verb}
 use Rattle.geo_script.specs.declared.verb.Verb.TheVariants as verb
-use Rattle.geo_script.specs.EventLines.{Read, region, place, statement_parts, sql, outcome, only_region, packet_words, deliver, fetch, work, sealing_of, crash_words, crash, after_words, crash_after, if_admitted, play_event, run_event, form_event, event_of, event_line}
+use Rattle.geo_script.specs.inner.EventLines.{OfLine, region, place, statement_parts, sql, outcome, only_region, packet_words, deliver, fetch, work, sealing_of, crash_words, crash, after_words, crash_after, if_admitted, play_event, run_event, form_event, event_of, event_line}
 use Rattle.geo_script.specs.EventWords.{verb_text}
-use Rattle.geo_script.specs.Past.{RunPast, has_crash, has_session}
+use Rattle.geo_script.specs.inner.Past.{RunPast, has_crash, has_session}
 use Rattle.geo_script.specs.Spelling.{session_text, sealing_text, event_text, IsShortened, Types, IsWithin, IsOfForm}
-use Rattle.geo_script.specs.Words.{◌>>=◌, is_word}
+use Rattle.geo_base.specs.Results.{◌>>=◌}
+use Rattle.geo_script.specs.Words.{is_word}
 use Rattle.geo_script.proofs.Cuts.{Lacks, cut_at, two, three}
 use Rattle.geo_script.proofs.Decimals.{decimal_lacks, decimal_word, number_read}
 use Rattle.geo_script.proofs.EventsSpelled.{IsAdmitted}
@@ -161,7 +162,7 @@ by_verb : (form : Form) (regions : ℕ) (past : RunPast) (verb : Verb) (rest : L
 unfolding event_of
 by_verb form regions past verb rest asked is = rw (behind_verb verb rest) is
 
-then_ok : (first : Read ℕ) (at : ℕ) (next : ℕ → Event) → first ≡ Ok at → (first >>= λ x. Ok (next x)) ≡ Ok (next at)
+then_ok : (first : OfLine ℕ) (at : ℕ) (next : ℕ → Event) → first ≡ Ok at → (first >>= λ x. Ok (next x)) ≡ Ok (next at)
 then_ok first at next is = rw is refl
 
 play_read : (regions : ℕ) (past : RunPast) (asked : Event) → IsRegions regions → IsOfForm Play asked → IsWithin regions asked → event_of Play regions past (event_text asked) ≡ Ok asked

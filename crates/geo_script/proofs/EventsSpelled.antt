@@ -14,10 +14,11 @@ use Rattle.geo_script.specs.declared.script.Form.{Form}
 use Rattle.geo_script.specs.declared.script.Form.TheVariants.{Play, Run}
 use Rattle.geo_script.specs.declared.verb.Verb.{Verb}
 use Rattle.geo_script.specs.declared.verb.Verb.TheVariants as verb
-use Rattle.geo_script.specs.EventLines.{Read, number, region, place, statement_parts, sql, after_words, fresh_region, crash_after, if_admitted, play_event, run_event, form_event, verb_and_rest, event_of, event_line}
+use Rattle.geo_script.specs.inner.EventLines.{OfLine, number, region, place, statement_parts, sql, after_words, fresh_region, crash_after, if_admitted, play_event, run_event, form_event, verb_and_rest, event_of, event_line}
 use Rattle.geo_script.specs.EventWords.{verb_text}
-use Rattle.geo_script.specs.Past.{RunPast, has_crash, has_session}
-use Rattle.geo_script.specs.Words.{◌>>=◌, three_words}
+use Rattle.geo_script.specs.inner.Past.{RunPast, has_crash, has_session}
+use Rattle.geo_base.specs.Results.{◌>>=◌}
+use Rattle.geo_script.specs.inner.Words.{three_words}
 use Rattle.geo_script.proofs.VerbTexts.{verb_parts}
 use Rattle.geo_script.proofs.Inversions.{step_ok, or_ok, then_some, if_ok, unless_ok, when_ok, if_some}
 use Rattle.geo_script.proofs.PlayLines.{IsRegions, Asks, number_is, region_is, three_are, sql_asks, outcome_asks, seal_asks, publish_asks, show_asks, restart_asks, deliver_asks, fetch_asks, work_asks, crash_asks}
@@ -31,11 +32,11 @@ IsAdmitted Run past (event.Sql at session text) = (has_session past at session �
 IsAdmitted Run past (event.CrashAfter at epoch) = has_crash past at ≡ false
 IsAdmitted Run past _ = Unit {0}
 
-record IsFreshRegion (past : RunPast) (found : Read ℕ) (at : ℕ) : Type 0 where
+record IsFreshRegion (past : RunPast) (found : OfLine ℕ) (at : ℕ) : Type 0 where
   is : found ≡ Ok at
   fresh : has_crash past at ≡ false
 
-fresh_is : (past : RunPast) (found : Read ℕ) (at : ℕ) → fresh_region past found ≡ Ok at → IsFreshRegion past found at
+fresh_is : (past : RunPast) (found : OfLine ℕ) (at : ℕ) → fresh_region past found ≡ Ok at → IsFreshRegion past found at
 fresh_is past (Ok region) at is =
     let fresh = unless_ok (has_crash past region) region at BadLine is in
     record { is = ap Ok fresh.1; fresh = subst (λ n. has_crash past n ≡ false) fresh.1 fresh.0 }

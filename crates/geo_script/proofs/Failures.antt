@@ -1,7 +1,7 @@
 -- What steps answered where the whole of them failed.
 use Rattle.std.proofs.Common.{◌≡◌, Bool, true, false, cond, Option, Some, None, Result, Ok, Err, refl, inl, inr, ◌⊎◌}
 use Rattle.std.specs.Option.{ok_or}
-use Rattle.geo_script.specs.Words.{◌>>=◌}
+use Rattle.geo_base.specs.Results.{◌>>=◌}
 
 pub step_err : {A B E : Type 0} (first : Result A E) (next : A → Result B E) (k : E) → (first >>= next) ≡ Err k →
     (first ≡ Err k) ⊎ ((x : A) × (first ≡ Ok x) × (next x ≡ Err k))

@@ -12,13 +12,13 @@ use Rattle.geo_script.specs.declared.fault.ScriptKind.TheVariants.{BadHeader, To
 use Rattle.geo_script.specs.declared.script.EventAt.{EventAt}
 use Rattle.geo_script.specs.declared.script.Form.{Form}
 use Rattle.geo_script.specs.declared.script.Script.{Script}
-use Rattle.geo_script.specs.EventLines.{Read}
+use Rattle.geo_script.specs.inner.EventLines.{OfLine}
 use Rattle.geo_script.specs.Faults.{BeginsScript, IsWrongHead, IsWrongEvent, IsWrong, lacking, LacksLine, HasBadLine, IsFault}
 use Rattle.geo_script.specs.Lines.{lines_of, is_silent, spoken_from}
-use Rattle.geo_script.specs.Past.{nothing_yet, past_behind}
-use Rattle.geo_script.specs.Scripts.{Checked, bad, at, title, title_line, regions_line, head_of, events_of, body_of, script_of_lines, script_of}
-use Rattle.geo_script.specs.Spelling.{AreDeclared, AreEventLines, IsLawful, IsScript}
-use Rattle.geo_script.specs.Words.{◌>>=◌}
+use Rattle.geo_script.specs.inner.Past.{nothing_yet, past_behind}
+use Rattle.geo_script.specs.inner.Scripts.{Checked, bad, at, title_line, regions_line, head_of, events_of, body_of, script_of_lines, script_of}
+use Rattle.geo_script.specs.Spelling.{title, AreDeclared, AreEventLines, IsLawful, IsScript}
+use Rattle.geo_base.specs.Results.{◌>>=◌}
 use Rattle.geo_script.proofs.PlayLines.{IsRegions}
 use Rattle.geo_script.proofs.Runs.{lawful_from, admitted_from}
 use Rattle.geo_script.proofs.WrongDeclarations.{declaration_wrong, declaration_stops}
@@ -280,7 +280,7 @@ first_bad form [] fault is =
     inl (lacks_line form [] fault is (nothing_begins form) (ap (λ (f : ScriptFault). f.line) (sym same)) (ap (λ (f : ScriptFault). f.kind) (sym same)))
 first_bad form (first ∷ []) fault is = by (title_line form first) refl is
   where
-    by : (r : Read (Unit {0})) → title_line form first ≡ r → (at 1 r >>= λ _. bad {A = Script} 2 BadHeader) ≡ Err fault → IsFirstBad form (first ∷ []) fault
+    by : (r : OfLine (Unit {0})) → title_line form first ≡ r → (at 1 r >>= λ _. bad {A = Script} 2 BadHeader) ≡ Err fault → IsFirstBad form (first ∷ []) fault
     by (Ok x) read found =
         let same : record { line = 2; kind = BadHeader } ≡ fault = cc in
         inl (lacks_line form (first ∷ []) fault is (title_begins form first (title_is form first x read)) (ap (λ (f : ScriptFault). f.line) (sym same)) (ap (λ (f : ScriptFault). f.kind) (sym same)))
@@ -289,7 +289,7 @@ first_bad form (first ∷ []) fault is = by (title_line form first) refl is
         inr (bad_line form (first ∷ []) [] first [] fault refl (nothing_begins form) (ap (λ (f : ScriptFault). f.line) (sym same)) (title_wrong form first fault.kind (read ∙ ap (λ (f : ScriptFault). Err f.kind) same)))
 first_bad form (first ∷ second ∷ body) fault is = by (title_line form first) refl is
   where
-    count : first ≡ title form → (r : Read ℕ) → regions_line second ≡ r → (at 2 r >>= λ regions. body_of form regions body) ≡ Err fault → IsFirstBad form (first ∷ second ∷ body) fault
+    count : first ≡ title form → (r : OfLine ℕ) → regions_line second ≡ r → (at 2 r >>= λ regions. body_of form regions body) ≡ Err fault → IsFirstBad form (first ∷ second ∷ body) fault
     count title (Ok regions) read found =
         let line = regions_is second regions read in in_body form first second body fault regions title line.whole line.lawful is found
     count title (Err kind) read found =
@@ -297,7 +297,7 @@ first_bad form (first ∷ second ∷ body) fault is = by (title_line form first)
         inr (bad_line form (first ∷ second ∷ body) (first ∷ []) second body fault refl (title_begins form first title) (ap (λ (f : ScriptFault). f.line) (sym same))
         (count_wrong second fault.kind (read ∙ ap (λ (f : ScriptFault). Err f.kind) same)))
 
-    by : (r : Read (Unit {0})) → title_line form first ≡ r → (at 1 r >>= λ _. (at 2 (regions_line second) >>= λ regions. body_of form regions body)) ≡ Err fault → IsFirstBad form (first ∷ second ∷ body) fault
+    by : (r : OfLine (Unit {0})) → title_line form first ≡ r → (at 1 r >>= λ _. (at 2 (regions_line second) >>= λ regions. body_of form regions body)) ≡ Err fault → IsFirstBad form (first ∷ second ∷ body) fault
     by (Ok x) read found = count (title_is form first x read) (regions_line second) refl found
     by (Err kind) read found =
         let same : record { line = 1; kind = kind } ≡ fault = cc in

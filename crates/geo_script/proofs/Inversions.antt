@@ -1,7 +1,7 @@
 -- What steps answered where the whole of them answered something.
 use Rattle.std.proofs.Common.{◌≡◌, Bool, true, false, cond, Option, Some, None, Result, Ok, Err, refl}
 use Rattle.std.specs.Option.{option_map, option_and_then, ok_or}
-use Rattle.geo_script.specs.Words.{◌>>=◌}
+use Rattle.geo_base.specs.Results.{◌>>=◌}
 
 pub step_ok : {A B E : Type 0} (first : Result A E) (next : A → Result B E) (y : B) → (first >>= next) ≡ Ok y → (x : A) × (first ≡ Ok x) × (next x ≡ Ok y)
 step_ok (Ok x) next y is = (x, refl, is)

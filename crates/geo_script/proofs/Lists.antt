@@ -2,7 +2,7 @@
 use Rattle.std.proofs.Common.{◌≡◌, ℕ, ◌+◌, ◌<◌, List, [], ◌∷◌, ◌++◌, length, drop, get_or, map, Option, Some, None, refl, sym, ap, ◌∙◌, arith, append_assoc, Bor}
 use Rattle.std.proofs.lemmas.List.{drop_more, get_or-map, length-map}
 use Rattle.std.specs.Option.{option_map}
-use Rattle.geo_script.specs.TableLines.{each}
+use Rattle.geo_script.specs.inner.TableLines.{each}
 
 -- what was read of the first items, and then what each of the others is
 abbrev pub behind : {B : Type 0} → List B → Option (List B) → Option (List B)

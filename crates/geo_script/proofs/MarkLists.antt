@@ -8,9 +8,9 @@ use Rattle.geo_schema.specs.declared.column.Kind.TheVariants as kind
 use Rattle.geo_script.specs.declared.column.Column.{Column}
 use Rattle.geo_script.specs.declared.mark.Mark.{Mark}
 use Rattle.geo_script.specs.declared.mark.Mark.TheVariants as mark
-use Rattle.geo_script.specs.Marks.{is_comma}
-use Rattle.geo_script.specs.Spelling.{IsKind, if_so, IsColumn, AreItems}
-use Rattle.geo_script.specs.TableLines.{sized, each}
+use Rattle.geo_script.specs.inner.Marks.{is_comma}
+use Rattle.geo_script.specs.Spelling.{SpellsKind, if_so, SpellsColumn, AreItems}
+use Rattle.geo_script.specs.inner.TableLines.{sized, each}
 use Rattle.geo_script.proofs.Inversions.{then_some, map_some, some_same}
 
 -- ---- lists
@@ -36,7 +36,7 @@ split_comma (m ∷ front) rest free =
     let parts = and_parts (not (is_comma m)) (list_all (λ x. not (is_comma x)) front) free in
     rw (not-true (is_comma m) parts.0, split_comma front rest parts.1) refl
 
-kind_free : (of : Kind) (front : List Mark) → IsKind of front → IsCommaFree front
+kind_free : (of : Kind) (front : List Mark) → SpellsKind of front → IsCommaFree front
 kind_free kind.Int front spells = rw spells refl
 kind_free kind.Truth front spells = rw spells refl
 kind_free (kind.Text max) front (few, inl alone) = rw (alone.1) refl
@@ -48,7 +48,7 @@ tail_free false true = refl
 tail_free true false = refl
 tail_free true true = refl
 
-pub column_free : (column : Column) (marks : List Mark) → IsColumn column marks → IsCommaFree marks
+pub column_free : (column : Column) (marks : List Mark) → SpellsColumn column marks → IsCommaFree marks
 column_free column marks is = rw is.whole (free_append is.kind _ (kind_free column.def.kind is.kind is.spells) (tail_free column.def.not_null column.is_key))
 
 -- the parts with a comma between each two

@@ -7,7 +7,7 @@ use Rattle.std.specs.Result.{result_ok}
 use Rattle.std.specs.Prelude.{nat_le, option_and_then}
 use Rattle.std.specs.Str.Parse.{AllDigits, IsNumeral, ParsesUnsigned, digits_value, without_leading_plus}
 use Rattle.std.proofs.lemmas.Bool.{and_parts, and_right, lt-leb, le-leb}
-use Rattle.geo_script.specs.Words.{is_numeral, number_within}
+use Rattle.geo_script.specs.inner.Words.{is_numeral, number_within}
 
 digit_is_below_ten : (b : ℕ) → is_ascii_digit b ≡ true → digit_value b < 10
 digit_is_below_ten b h = grind (arith, nat_tests)

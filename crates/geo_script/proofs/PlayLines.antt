@@ -17,9 +17,11 @@ use Rattle.geo_script.specs.declared.fault.ScriptKind.TheVariants.{BadLine, BadN
 use Rattle.geo_script.specs.declared.limits.TheConstants.{STATEMENT_BYTES, SEATS_PER_ROUND, LAST_ASKED_EPOCH, LAST_PACKET}
 use Rattle.geo_script.specs.declared.script.Form.{Form}
 use Rattle.geo_script.specs.declared.script.Form.TheVariants.{Play, Run}
-use Rattle.geo_script.specs.EventLines.{number, region, place, statement_parts, sql, outcome, only_region, packet_words, deliver, fetch, work, sealing_of, crash_words, crash}
+use Rattle.geo_script.specs.inner.EventLines.{number, region, place, statement_parts, sql, outcome, only_region, packet_words, deliver, fetch, work, sealing_of, crash_words, crash}
 use Rattle.geo_script.specs.Spelling.{session_text, sealing_text, Types, IsWithin, IsOfForm}
-use Rattle.geo_script.specs.Words.{◌>>=◌, cut, is_word, two_words, three_words, number_within}
+use Rattle.geo_base.specs.Results.{◌>>=◌}
+use Rattle.geo_script.specs.inner.Words.{cut, two_words, three_words, number_within}
+use Rattle.geo_script.specs.Words.{is_word}
 use Rattle.geo_script.proofs.Cuts.{cut_parts}
 use Rattle.geo_script.proofs.Decimals.{SpellsWithin, number_spelled}
 use Rattle.geo_script.proofs.Inversions.{step_ok, or_ok, then_some, if_ok, unless_ok, when_ok, if_some, when_some}

@@ -15,7 +15,7 @@ use Rattle.geo_script.specs.declared.limits.TheConstants.{SESSIONS_PER_RUN}
 use Rattle.geo_script.specs.declared.script.EventAt.{EventAt}
 use Rattle.geo_script.specs.declared.script.Form.{Form}
 use Rattle.geo_script.specs.declared.script.Form.TheVariants.{Play, Run}
-use Rattle.geo_script.specs.Past.{RunPast, nothing_yet, same_session, has_session, with_session, with_event, next_past}
+use Rattle.geo_script.specs.inner.Past.{RunPast, nothing_yet, same_session, has_session, with_session, with_event, next_past}
 use Rattle.geo_script.specs.Spelling.{session_of, crashed_of, along, IsLawful}
 use Rattle.geo_script.proofs.EventsSpelled.{IsAdmitted}
 

@@ -16,13 +16,15 @@ use Rattle.geo_script.specs.declared.script.EventAt.{EventAt}
 use Rattle.geo_script.specs.declared.script.Form.{Form}
 use Rattle.geo_script.specs.declared.script.Form.TheVariants.{Play, Run}
 use Rattle.geo_script.specs.declared.script.Script.{Script}
-use Rattle.geo_script.specs.EventLines.{Read, number, event_line}
+use Rattle.geo_script.specs.inner.EventLines.{OfLine, number, event_line}
 use Rattle.geo_script.specs.Lines.{lines_of, spoken_from}
-use Rattle.geo_script.specs.Past.{RunPast, nothing_yet, next_past}
-use Rattle.geo_script.specs.Scripts.{bad, at, title, title_line, regions_word, regions_line, head_of, events_of, body_of, script_of_lines, script_of}
-use Rattle.geo_script.specs.Spelling.{Declares, AreDeclared, AreEventLines, IsScript, IsScriptText}
-use Rattle.geo_script.specs.TableLines.{table_line}
-use Rattle.geo_script.specs.Words.{◌>>=◌, cut, is_word}
+use Rattle.geo_script.specs.inner.Past.{RunPast, nothing_yet, next_past}
+use Rattle.geo_script.specs.inner.Scripts.{bad, at, title_line, regions_word, regions_line, head_of, events_of, body_of, script_of_lines, script_of}
+use Rattle.geo_script.specs.Spelling.{title, Declares, AreDeclared, AreEventLines, IsScript, IsScriptText}
+use Rattle.geo_script.specs.inner.TableLines.{table_line}
+use Rattle.geo_base.specs.Results.{◌>>=◌}
+use Rattle.geo_script.specs.inner.Words.{cut}
+use Rattle.geo_script.specs.Words.{is_word}
 use Rattle.geo_script.proofs.Cuts.{cut_at, cut_parts}
 use Rattle.geo_script.proofs.Decimals.{decimal_word, number_read}
 use Rattle.geo_script.proofs.Declarations.{head_line_is, head_line_read, begin_declares_nothing}
@@ -32,7 +34,7 @@ use Rattle.geo_script.proofs.PlayLines.{IsRegions, number_is}
 use Rattle.geo_script.proofs.Inversions.{step_ok, or_ok, if_ok, when_ok}
 use Rattle.geo_script.proofs.Runs.{AreAdmitted, lawful_from, admitted_from}
 
-pub at_ok : {A : Type 0} (line : ℕ) (r : Read A) (x : A) → at line r ≡ Ok x → r ≡ Ok x
+pub at_ok : {A : Type 0} (line : ℕ) (r : OfLine A) (x : A) → at line r ≡ Ok x → r ≡ Ok x
 at_ok line (Ok y) x is = cc
 at_ok line (Err kind) x is = cc
 

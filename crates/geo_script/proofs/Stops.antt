@@ -12,12 +12,12 @@ use Rattle.geo_script.specs.declared.fault.ScriptKind.{ScriptKind}
 use Rattle.geo_script.specs.declared.fault.ScriptKind.TheVariants.{MissingBegin}
 use Rattle.geo_script.specs.declared.script.EventAt.{EventAt}
 use Rattle.geo_script.specs.declared.script.Form.{Form}
-use Rattle.geo_script.specs.EventLines.{Read, event_line}
-use Rattle.geo_script.specs.Past.{RunPast, next_past, past_behind}
-use Rattle.geo_script.specs.Scripts.{Checked, bad, at, head_of, events_of}
+use Rattle.geo_script.specs.inner.EventLines.{OfLine, event_line}
+use Rattle.geo_script.specs.inner.Past.{RunPast, next_past, past_behind}
+use Rattle.geo_script.specs.inner.Scripts.{Checked, bad, at, head_of, events_of}
 use Rattle.geo_script.specs.Spelling.{AreDeclared, AreEventLines}
-use Rattle.geo_script.specs.TableLines.{table_line}
-use Rattle.geo_script.specs.Words.{◌>>=◌}
+use Rattle.geo_script.specs.inner.TableLines.{table_line}
+use Rattle.geo_base.specs.Results.{◌>>=◌}
 use Rattle.geo_script.proofs.Declarations.{head_line_is, head_line_read}
 use Rattle.geo_script.proofs.EventsRead.{line_read}
 use Rattle.geo_script.proofs.EventsSpelled.{line_asks}
@@ -75,7 +75,7 @@ head_stops after tables (line ∷ lines) fault is =
 
     by : (b : Bool) → bytes_eq line.1 (codes "begin") ≡ b →
         cond b (Ok (tables, lines)) (at line.0 (table_line tables line.1) >>= λ more. head_of after more lines) ≡ Err fault →
-        (r : Read (List TableDef)) → table_line tables line.1 ≡ r →
+        (r : OfLine (List TableDef)) → table_line tables line.1 ≡ r →
         ((more : List TableDef) → head_of after more lines ≡ Err fault → LacksBegin after more lines fault ⊎ StopsInHead more lines fault) →
         LacksBegin after tables (line ∷ lines) fault ⊎ StopsInHead tables (line ∷ lines) fault
     by true begins found r read later = cc
@@ -149,7 +149,7 @@ events_stop form regions lawful past (line ∷ lines) fault is =
     later_err one (Ok events) found = cc
     later_err one (Err other) found = cc
 
-    by : (r : Read Event) → event_line form regions past line.1 ≡ r →
+    by : (r : OfLine Event) → event_line form regions past line.1 ≡ r →
         (at line.0 r >>= λ event. (events_of form regions (next_past form past event) lines >>= λ events. Ok (record { line = line.0; event = event } ∷ events))) ≡ Err fault →
         ((event : Event) → events_of form regions (next_past form past event) lines ≡ Err fault → StopsInEvents form regions (next_past form past event) lines fault) →
         StopsInEvents form regions past (line ∷ lines) fault

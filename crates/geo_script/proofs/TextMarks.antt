@@ -7,7 +7,8 @@ use Rattle.sql_lex.specs.inner.Tokens.{tokens_of}
 use Rattle.sql_lex.specs.Grammar.{AreTokensOf}
 use Rattle.sql_lex.specs.laws.Cuts.{Stops, tokens_are_cut, cut_is_tokens, stop_is_fault}
 use Rattle.geo_script.specs.declared.mark.Mark.{Mark}
-use Rattle.geo_script.specs.Marks.{mark_of, if_tokens, marks_of}
+use Rattle.geo_script.specs.Marks.{mark_of}
+use Rattle.geo_script.specs.inner.Marks.{if_tokens, marks_of}
 use Rattle.geo_script.specs.Spelling.{HasMarks}
 use Rattle.geo_script.proofs.Inversions.{some_same}
 

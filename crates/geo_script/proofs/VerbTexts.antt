@@ -4,10 +4,10 @@ use Rattle.std.specs.Str.{bytes_eq}
 use Rattle.std.proofs.lemmas.Slice.Eq.{bytes_eq-Decides}
 use Rattle.geo_script.specs.declared.verb.Verb.{Verb}
 use Rattle.geo_script.specs.declared.verb.Verb.TheVariants.{Sql, Outcome, Seal, Deliver, Fetch, Work, Publish, Show, Crash, Restart}
-use Rattle.geo_script.specs.EventLines.{verb_and_rest}
+use Rattle.geo_script.specs.inner.EventLines.{verb_and_rest}
 use Rattle.geo_script.specs.EventWords.{verb_text}
-use Rattle.geo_script.specs.Verbs.{verbs, lookup, verb_of}
-use Rattle.geo_script.specs.Words.{cut}
+use Rattle.geo_script.specs.inner.Verbs.{verbs, lookup, verb_of}
+use Rattle.geo_script.specs.inner.Words.{cut}
 use Rattle.geo_script.proofs.Cuts.{Lacks, cut_at, cut_parts}
 use Rattle.geo_script.proofs.Inversions.{then_some}
 

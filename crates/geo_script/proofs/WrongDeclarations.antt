@@ -12,11 +12,12 @@ use Rattle.geo_schema.specs.declared.table.TableDef.{TableDef}
 use Rattle.geo_schema.specs.inner.Schemas.{schema_fault}
 use Rattle.geo_script.specs.declared.fault.ScriptKind.{ScriptKind}
 use Rattle.geo_script.specs.declared.fault.ScriptKind.TheVariants.{NotUtf8, BadTable, BadIndex, BadLine}
-use Rattle.geo_script.specs.EventLines.{Read}
-use Rattle.geo_script.specs.EventWords.{IsWord}
-use Rattle.geo_script.specs.Marks.{marks_of}
-use Rattle.geo_script.specs.TableLines.{table_of, with_table, filled, first_word, index_parts, add_index, index_of, with_index, by_word, declared_by, table_line}
-use Rattle.geo_script.specs.Words.{cut, is_word}
+use Rattle.geo_script.specs.inner.EventLines.{OfLine}
+use Rattle.geo_script.specs.Words.{IsWord, is_word}
+use Rattle.geo_script.specs.inner.Marks.{marks_of}
+use Rattle.geo_script.specs.inner.TableLines.{table_of, with_table, filled, first_word, index_parts, index_of, with_index, by_word, declared_by, table_line}
+use Rattle.geo_script.specs.Tables.{add_index}
+use Rattle.geo_script.specs.inner.Words.{cut}
 use Rattle.geo_script.specs.Wrongs.{Begins, HasEmptyWord, CanStand, IsWrongDeclaration}
 use Rattle.geo_script.proofs.Cuts.{Lacks, cut_at, cut_nowhere, cut_parts, word_lacks}
 use Rattle.geo_script.proofs.Declarations.{word_read, head_line_is, head_line_read}
@@ -202,7 +203,7 @@ FailsBy word line kind =
     ⊎ (((word ≡ codes "index") × ((BadIndex ≡ kind) ⊎ ((BadLine ≡ kind) × HasEmptyWord line)))
     ⊎ ((word ≢ codes "table") × (word ≢ codes "index") × (BadLine ≡ kind)))
 
-chosen : (word : List ℕ) (table index : Read (List TableDef)) (kind : ScriptKind) →
+chosen : (word : List ℕ) (table index : OfLine (List TableDef)) (kind : ScriptKind) →
     cond (bytes_eq word (codes "table")) table (cond (bytes_eq word (codes "index")) index (Err BadLine)) ≡ Err kind →
     ((word ≡ codes "table") × (table ≡ Err kind))
     ⊎ (((word ≡ codes "index") × (index ≡ Err kind)) ⊎ ((word ≢ codes "table") × (word ≢ codes "index") × (BadLine ≡ kind)))
@@ -298,7 +299,7 @@ declaration_stops tables line BadTable (text, begins, none) = by (table_line tab
     fails kind (inr (inl index)) is = absurd (apart (sym is ∙ index.0))
     fails kind (inr (inr other)) is = absurd (other.0 is)
 
-    by : (r : Read (List TableDef)) → table_line tables line ≡ r → r ≡ Err BadTable
+    by : (r : OfLine (List TableDef)) → table_line tables line ≡ r → r ≡ Err BadTable
     by (Ok more) read = absurd (none (can_stand tables line more read))
     by (Err kind) read =
         let found : declared_by tables line ≡ Err kind = rw (is_utf8-from_IsUtf8 line text) at read in
@@ -311,7 +312,7 @@ declaration_stops tables line BadIndex (text, begins, full, none) = by (table_li
     fails kind (inr (inl (same, inr (e, empty)))) is = absurd (full empty)
     fails kind (inr (inr other)) is = absurd (other.1 is)
 
-    by : (r : Read (List TableDef)) → table_line tables line ≡ r → r ≡ Err BadIndex
+    by : (r : OfLine (List TableDef)) → table_line tables line ≡ r → r ≡ Err BadIndex
     by (Ok more) read = absurd (none (can_stand tables line more read))
     by (Err kind) read =
         let found : declared_by tables line ≡ Err kind = rw (is_utf8-from_IsUtf8 line text) at read in

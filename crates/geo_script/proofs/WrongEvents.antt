@@ -13,11 +13,13 @@ use Rattle.geo_script.specs.declared.script.Form.{Form}
 use Rattle.geo_script.specs.declared.script.Form.TheVariants.{Play, Run}
 use Rattle.geo_script.specs.declared.verb.Verb.{Verb}
 use Rattle.geo_script.specs.declared.verb.Verb.TheVariants as verb
-use Rattle.geo_script.specs.EventLines.{Read, number, region, place, statement_parts, sql, outcome, only_region, packet_words, deliver, fetch, work, crash_words, crash, after_words, fresh_region, crash_after, if_admitted, play_event, run_event, form_event}
-use Rattle.geo_script.specs.EventWords.{verb_text, IsWord, HasStatement, HasTwoWords, HasThreeWords, HasSealing, HasAfter, HasWordsBehind}
-use Rattle.geo_script.specs.Past.{RunPast, has_crash, has_session}
+use Rattle.geo_script.specs.inner.EventLines.{OfLine, number, region, place, statement_parts, sql, outcome, only_region, packet_words, deliver, fetch, work, crash_words, crash, after_words, fresh_region, crash_after, if_admitted, play_event, run_event, form_event}
+use Rattle.geo_script.specs.EventWords.{verb_text, HasStatement, HasTwoWords, HasThreeWords, HasSealing, HasAfter, HasWordsBehind}
+use Rattle.geo_script.specs.Words.{IsWord, is_word}
+use Rattle.geo_script.specs.inner.Past.{RunPast, has_crash, has_session}
 use Rattle.geo_script.specs.Spelling.{event_text, Types}
-use Rattle.geo_script.specs.Words.{◌>>=◌, cut, is_word, two_words, three_words, number_within}
+use Rattle.geo_base.specs.Results.{◌>>=◌}
+use Rattle.geo_script.specs.inner.Words.{cut, two_words, three_words, number_within}
 use Rattle.geo_script.specs.Wrongs.{CrashesAgain, IsTooLong, IsOneSessionMore, HasNoRoom}
 use Rattle.geo_script.proofs.EventWords.{statement_is, statement_read, two_is, two_read, three_is, three_read, packets_are, packets_read, crash_are, crash_none, after_is, after_none}
 use Rattle.geo_script.proofs.EventsRead.{after_read}
@@ -31,7 +33,7 @@ use Rattle.geo_script.proofs.Inversions.{step_ok, or_ok, when_ok}
 number_bad : (least most : ℕ) (word : List ℕ) (kind : ScriptKind) → number least most word ≡ Err kind → BadNumber ≡ kind
 number_bad least most word kind is = (or_err (number_within least most word) BadNumber kind is).1
 
-number_err : {B : Type 0} (least most : ℕ) (word : List ℕ) (next : ℕ → Read B) (kind : ScriptKind) → (number least most word >>= next) ≡ Err kind →
+number_err : {B : Type 0} (least most : ℕ) (word : List ℕ) (next : ℕ → OfLine B) (kind : ScriptKind) → (number least most word >>= next) ≡ Err kind →
     (BadNumber ≡ kind) ⊎ ((n : ℕ) × (next n ≡ Err kind))
 number_err least most word next kind is =
     elim (step_err (number least most word) next kind is) [ inl bad ↦ inl (number_bad least most word kind bad) | inr found ↦ inr (found.0, found.2) ]
@@ -51,10 +53,10 @@ place_bad regions word kind is =
 -- ---- lines of plays, by what stands behind their first word
 
 -- it has no such words, or it has them and a number is wrong
-abbrev Fails : Type 0 → ScriptKind → Type 0
-Fails Words kind = ((BadLine ≡ kind) × (Words → ⊥)) ⊎ (Words × (BadNumber ≡ kind))
+abbrev WordsFail : Type 0 → ScriptKind → Type 0
+WordsFail Words kind = ((BadLine ≡ kind) × (Words → ⊥)) ⊎ (Words × (BadNumber ≡ kind))
 
-outcome_fails : (regions : ℕ) (rest : List ℕ) (kind : ScriptKind) → outcome regions rest ≡ Err kind → Fails (IsWord rest) kind
+outcome_fails : (regions : ℕ) (rest : List ℕ) (kind : ScriptKind) → outcome regions rest ≡ Err kind → WordsFail (IsWord rest) kind
 unfolding outcome
 outcome_fails regions rest kind is =
     elim (when_err (is_word rest) _ BadLine kind is) [
@@ -62,7 +64,7 @@ outcome_fails regions rest kind is =
       | inr word ↦ inr (word.0, elim (step_err (place regions rest) _ kind word.1) [ inl bad ↦ place_bad regions rest kind bad | inr found ↦ cc (found.2) ])
     ]
 
-only_fails : (regions : ℕ) (rest : List ℕ) (next : ℕ → Event) (kind : ScriptKind) → (only_region regions rest >>= λ at. Ok (next at)) ≡ Err kind → Fails (IsWord rest) kind
+only_fails : (regions : ℕ) (rest : List ℕ) (next : ℕ → Event) (kind : ScriptKind) → (only_region regions rest >>= λ at. Ok (next at)) ≡ Err kind → WordsFail (IsWord rest) kind
 unfolding only_region
 only_fails regions rest next kind is =
     elim (step_err (only_region regions rest) _ kind is) [
@@ -74,7 +76,7 @@ only_fails regions rest next kind is =
       | inr found ↦ cc (found.2)
     ]
 
-deliver_fails : (rest : List ℕ) (kind : ScriptKind) → deliver rest ≡ Err kind → Fails (IsWord rest ⊎ HasTwoWords rest) kind
+deliver_fails : (rest : List ℕ) (kind : ScriptKind) → deliver rest ≡ Err kind → WordsFail (IsWord rest ⊎ HasTwoWords rest) kind
 unfolding deliver
 deliver_fails rest kind is =
     elim (option_err (packet_words rest) BadLine _ kind is) [
@@ -93,7 +95,7 @@ deliver_fails rest kind is =
           )
     ]
 
-fetch_fails : (regions : ℕ) (rest : List ℕ) (kind : ScriptKind) → fetch regions rest ≡ Err kind → Fails (HasThreeWords rest) kind
+fetch_fails : (regions : ℕ) (rest : List ℕ) (kind : ScriptKind) → fetch regions rest ≡ Err kind → WordsFail (HasThreeWords rest) kind
 unfolding fetch
 fetch_fails regions rest kind is =
     elim (option_err (three_words rest) BadLine _ kind is) [
@@ -116,7 +118,7 @@ fetch_fails regions rest kind is =
           )
     ]
 
-work_fails : (regions : ℕ) (rest : List ℕ) (kind : ScriptKind) → work regions rest ≡ Err kind → Fails (HasTwoWords rest) kind
+work_fails : (regions : ℕ) (rest : List ℕ) (kind : ScriptKind) → work regions rest ≡ Err kind → WordsFail (HasTwoWords rest) kind
 unfolding work
 work_fails regions rest kind is =
     elim (option_err (two_words rest) BadLine _ kind is) [
@@ -131,7 +133,7 @@ work_fails regions rest kind is =
           )
     ]
 
-crash_fails : (regions : ℕ) (rest : List ℕ) (kind : ScriptKind) → crash regions rest ≡ Err kind → Fails (IsWord rest ⊎ HasSealing rest) kind
+crash_fails : (regions : ℕ) (rest : List ℕ) (kind : ScriptKind) → crash regions rest ≡ Err kind → WordsFail (IsWord rest ⊎ HasSealing rest) kind
 unfolding crash
 crash_fails regions rest kind is =
     elim (option_err (crash_words rest) BadLine _ kind is) [
@@ -152,7 +154,7 @@ Behind form regions past line kind =
 abbrev pub LineFails : Form → ℕ → RunPast → Type 0 → List ℕ → ScriptKind → Type 0
 LineFails form regions past Words line kind = ((BadLine ≡ kind) × (Words → ⊥)) ⊎ (Words × Behind form regions past line kind)
 
-plain : (form : Form) (regions : ℕ) (past : RunPast) (Words : Type 0) (line : List ℕ) (kind : ScriptKind) → Fails Words kind → LineFails form regions past Words line kind
+plain : (form : Form) (regions : ℕ) (past : RunPast) (Words : Type 0) (line : List ℕ) (kind : ScriptKind) → WordsFail Words kind → LineFails form regions past Words line kind
 plain form regions past Words line kind (inl none) = inl none
 plain form regions past Words line kind (inr (words, e)) = inr (words, inl e)
 
@@ -243,7 +245,7 @@ FreshFails regions past word kind = (BadNumber ≡ kind) ⊎ ((at : ℕ) × (reg
 fresh_fails : (regions : ℕ) (past : RunPast) (word : List ℕ) (kind : ScriptKind) → fresh_region past (region regions word) ≡ Err kind → FreshFails regions past word kind
 fresh_fails regions past word kind is = by (region regions word) refl is
   where
-    by : (r : Read ℕ) → region regions word ≡ r → fresh_region past r ≡ Err kind → FreshFails regions past word kind
+    by : (r : OfLine ℕ) → region regions word ≡ r → fresh_region past r ≡ Err kind → FreshFails regions past word kind
     by (Ok at) read found = elim (unless_err (has_crash past at) _ BadLine kind found) [ inl again ↦ inr (at, read, again.0, again.1) | inr fresh ↦ cc (fresh.1) ]
     by (Err other) read found = let same : other ≡ kind = cc in inl (number_bad 0 (regions - 1) word other read ∙ same)
 
@@ -310,7 +312,7 @@ form_fails Run regions lawful past verb.Restart rest kind is = inl (cc, λ none.
 
 -- ---- what is read has its words
 
-read_ok : {A : Type 0} (o : Option A) (next : A → Read Event) (asked : Event) → (ok_or o BadLine >>= next) ≡ Ok asked → (x : A) × (o ≡ Some x)
+read_ok : {A : Type 0} (o : Option A) (next : A → OfLine Event) (asked : Event) → (ok_or o BadLine >>= next) ≡ Ok asked → (x : A) × (o ≡ Some x)
 read_ok o next asked is = let found = step_ok (ok_or o BadLine) next asked is in (found.0, or_ok o BadLine found.0 found.1)
 
 only_behind : (regions : ℕ) (rest : List ℕ) (next : ℕ → Event) (asked : Event) → (only_region regions rest >>= λ at. Ok (next at)) ≡ Ok asked → IsWord rest

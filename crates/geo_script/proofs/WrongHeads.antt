@@ -10,9 +10,12 @@ use Rattle.geo_base.specs.declared.limits.TheConstants.{MAX_REGIONS}
 use Rattle.geo_script.specs.declared.fault.ScriptKind.{ScriptKind}
 use Rattle.geo_script.specs.declared.fault.ScriptKind.TheVariants.{NotUtf8, BadHeader, BadNumber}
 use Rattle.geo_script.specs.declared.script.Form.{Form}
-use Rattle.geo_script.specs.EventLines.{Read, number}
-use Rattle.geo_script.specs.Scripts.{title, title_line, regions_word, regions_line}
-use Rattle.geo_script.specs.Words.{◌>>=◌, cut, is_word, number_within}
+use Rattle.geo_script.specs.inner.EventLines.{OfLine, number}
+use Rattle.geo_script.specs.Spelling.{title}
+use Rattle.geo_script.specs.inner.Scripts.{title_line, regions_word, regions_line}
+use Rattle.geo_base.specs.Results.{◌>>=◌}
+use Rattle.geo_script.specs.inner.Words.{cut, number_within}
+use Rattle.geo_script.specs.Words.{is_word}
 use Rattle.geo_script.specs.Wrongs.{IsWrongTitle, HasCount, CountsRegions, IsWrongCount}
 use Rattle.geo_script.proofs.Cuts.{cut_at, cut_parts}
 use Rattle.geo_script.proofs.PlayLines.{number_is}
@@ -101,12 +104,12 @@ unfolding regions_line
 count_stops line NotUtf8 wrong = rw (other_text line wrong) refl
 count_stops line BadHeader wrong = rw (is_utf8-from_IsUtf8 line wrong.0) (by (regions_word line) refl)
   where
-    by : (r : Read (List ℕ)) → regions_word line ≡ r → (r >>= number 1 MAX_REGIONS) ≡ Err BadHeader
+    by : (r : OfLine (List ℕ)) → regions_word line ≡ r → (r >>= number 1 MAX_REGIONS) ≡ Err BadHeader
     by (Ok word) read = absurd (wrong.1 (word_counted line word read))
     by (Err kind) read = ap Err (sym (word_bad line kind read))
 count_stops line BadNumber (text, count, none) = rw (is_utf8-from_IsUtf8 line text) (rw (count_word line count) (by (number 1 MAX_REGIONS count.0) refl))
   where
-    by : (r : Read ℕ) → number 1 MAX_REGIONS count.0 ≡ r → r ≡ Err BadNumber
+    by : (r : OfLine ℕ) → number 1 MAX_REGIONS count.0 ≡ r → r ≡ Err BadNumber
     by (Ok n) read =
         let is = number_is 1 MAX_REGIONS count.0 n (omega arith) read in
         absurd (none (n, is.low, is.high, count.2 ∙ ap (λ w. codes "regions " ++ w) is.spelled))

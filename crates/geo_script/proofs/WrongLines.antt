@@ -16,9 +16,10 @@ use Rattle.geo_script.specs.declared.script.Form.{Form}
 use Rattle.geo_script.specs.declared.script.Form.TheVariants.{Play, Run}
 use Rattle.geo_script.specs.declared.verb.Verb.{Verb}
 use Rattle.geo_script.specs.declared.verb.Verb.TheVariants as verb
-use Rattle.geo_script.specs.EventLines.{Read, statement_parts, sql, crash_after, play_event, run_event, form_event, verb_and_rest, event_of, event_line}
-use Rattle.geo_script.specs.EventWords.{verb_text, IsWord, HasWordsBehind, HasWords}
-use Rattle.geo_script.specs.Past.{RunPast, has_crash, has_session}
+use Rattle.geo_script.specs.inner.EventLines.{OfLine, statement_parts, sql, crash_after, play_event, run_event, form_event, verb_and_rest, event_of, event_line}
+use Rattle.geo_script.specs.EventWords.{verb_text, HasWordsBehind, HasWords}
+use Rattle.geo_script.specs.Words.{IsWord}
+use Rattle.geo_script.specs.inner.Past.{RunPast, has_crash, has_session}
 use Rattle.geo_script.specs.Spelling.{session_text, event_text, Types, IsOfForm, IsWithin}
 use Rattle.geo_script.specs.Wrongs.{HasRightNumbers, SpellsNumbers, CrashesAgain, IsTooLong, IsOneSessionMore, HasNoRoom, IsWrongLine}
 use Rattle.geo_script.proofs.Cuts.{cut_at, word_lacks}
@@ -265,12 +266,12 @@ line_stops form regions lawful past line BadLine (text, inr again) =
     of_line form regions past line (is_utf8-from_IsUtf8 line text) ∙ again_read form regions lawful past line again
 line_stops form regions lawful past line BadLine (text, inl none) = by (event_line form regions past line) refl
   where
-    by : (r : Read Event) → event_line form regions past line ≡ r → r ≡ Err BadLine
+    by : (r : OfLine Event) → event_line form regions past line ≡ r → r ≡ Err BadLine
     by (Ok asked) read = absurd (none (words_read form regions past line asked (sym (of_line form regions past line (is_utf8-from_IsUtf8 line text)) ∙ read)))
     by (Err kind) read = ap Err (sym (wordless form regions lawful past line kind none (sym (of_line form regions past line (is_utf8-from_IsUtf8 line text)) ∙ read)))
 line_stops form regions lawful past line BadNumber (text, words, once, none) = by (event_line form regions past line) refl
   where
-    by : (r : Read Event) → event_line form regions past line ≡ r → r ≡ Err BadNumber
+    by : (r : OfLine Event) → event_line form regions past line ≡ r → r ≡ Err BadNumber
     by (Ok asked) read =
         let now = line_asks form regions lawful past line asked read in
         absurd (none record { asked = asked; typed = now.now.asks.typed; of_form = now.now.asks.of_form; right = right_of regions asked now.now.asks.within })

@@ -1,10 +1,10 @@
 -- How many words the lines of events have.
-use Rattle.std.specs.Prelude.{◌≡◌, ◌⊎◌, ℕ, ◌≤◌, true, List, ◌++◌, length, codes}
+use Rattle.std.specs.Prelude.{◌≡◌, ◌⊎◌, ℕ, ◌≤◌, List, ◌++◌, length, codes}
 use Rattle.geo_script.specs.declared.script.Form.{Form}
 use Rattle.geo_script.specs.declared.script.Form.TheVariants.{Play, Run}
 use Rattle.geo_script.specs.declared.verb.Verb.{Verb}
 use Rattle.geo_script.specs.declared.verb.Verb.TheVariants.{Sql, Outcome, Seal, Deliver, Fetch, Work, Publish, Show, Crash, Restart}
-use Rattle.geo_script.specs.Words.{is_word}
+use Rattle.geo_script.specs.Words.{IsWord}
 
 -- the verb as it is written
 abbrev pub verb_text : Verb → List ℕ
@@ -18,10 +18,6 @@ verb_text Publish = codes "publish"
 verb_text Show = codes "show"
 verb_text Crash = codes "crash"
 verb_text Restart = codes "restart"
-
--- a word has at least one byte, and no space
-abbrev pub IsWord : List ℕ → Type 0
-IsWord bytes = is_word bytes ≡ true
 
 -- a word, a space, and a text of at least one byte
 pub record HasStatement (bytes : List ℕ) : Type 0 where

@@ -3,8 +3,8 @@ use Rattle.std.specs.Prelude.{◌≡◌, ◌≢◌, ◌⊎◌, ℕ, ◌+◌, ◌
 use Rattle.std.specs.Fmt.{decimal}
 use Rattle.geo_base.specs.declared.limits.TheConstants.{MAX_REGIONS, SCRIPT_BYTES}
 use Rattle.geo_schema.specs.declared.table.TableDef.{TableDef}
-use Rattle.geo_script.specs.declared.fault.ReadFault.{ReadFault}
-use Rattle.geo_script.specs.declared.fault.ReadFault.TheVariants as read_fault
+use Rattle.geo_script.specs.declared.fault.ScriptRefusal.{ScriptRefusal}
+use Rattle.geo_script.specs.declared.fault.ScriptRefusal.TheVariants as refusal
 use Rattle.geo_script.specs.declared.fault.ScriptFault.{ScriptFault}
 use Rattle.geo_script.specs.declared.fault.ScriptKind.{ScriptKind}
 use Rattle.geo_script.specs.declared.fault.ScriptKind.TheVariants.{TooLong, BadHeader, MissingBegin}
@@ -12,7 +12,7 @@ use Rattle.geo_script.specs.declared.script.EventAt.{EventAt}
 use Rattle.geo_script.specs.declared.script.Form.{Form}
 use Rattle.geo_script.specs.declared.script.Script.{Script}
 use Rattle.geo_script.specs.Lines.{lines_of, is_silent, spoken_from}
-use Rattle.geo_script.specs.Past.{nothing_yet, past_behind}
+use Rattle.geo_script.specs.inner.Past.{nothing_yet, past_behind}
 use Rattle.geo_script.specs.Spelling.{AreDeclared, AreEventLines, IsLawful, IsScript}
 use Rattle.geo_script.specs.Wrongs.{IsWrongTitle, IsWrongCount, IsWrongDeclaration, IsWrongLine}
 
@@ -87,6 +87,6 @@ IsFault form bytes fault =
     ⊎ ((length bytes ≤ SCRIPT_BYTES) × (LacksLine form (lines_of bytes) fault ⊎ HasBadLine form (lines_of bytes) fault))
 
 -- why no script was read: the text's fault, or want of memory
-abbrev pub IsReadFault : Form → List ℕ → ReadFault → Type 0
-IsReadFault form bytes read_fault.NoMemory = Unit {0}
-IsReadFault form bytes (read_fault.Script fault) = IsFault form bytes fault
+abbrev pub IsRefusal : Form → List ℕ → ScriptRefusal → Type 0
+IsRefusal form bytes refusal.NoMemory = Unit {0}
+IsRefusal form bytes (refusal.Script fault) = IsFault form bytes fault

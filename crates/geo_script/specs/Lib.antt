@@ -1,13 +1,9 @@
 pub mod Lines
 pub mod Words
-pub mod Verbs
-pub mod Past
-pub mod EventLines
-pub mod Marks
-pub mod TableLines
-pub mod Scripts
-pub mod Spelling
-pub mod Answers
 pub mod EventWords
+pub mod Marks
+pub mod Tables
+pub mod Spelling
 pub mod Wrongs
 pub mod Faults
+pub mod inner

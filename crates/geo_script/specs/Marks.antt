@@ -1,14 +1,10 @@
 -- What tokens are in lines that declare tables and indexes.
-use Rattle.std.specs.Prelude.{ℕ, Bool, true, false, List, map, Option, Some, None, Result, Ok, Err}
 use Rattle.sql_lex.specs.declared.keyword.Keyword.{Keyword}
 use Rattle.sql_lex.specs.declared.keyword.Keyword.TheVariants.{KInt, KText, KBool, KNot, KNull, KKey}
 use Rattle.sql_lex.specs.declared.symbol.Symbol.{Symbol}
 use Rattle.sql_lex.specs.declared.symbol.Symbol.TheVariants as symbol
-use Rattle.sql_lex.specs.declared.token.LexFault.{LexFault}
-use Rattle.sql_lex.specs.declared.token.Token.{Token}
 use Rattle.sql_lex.specs.declared.token.TokenKind.{TokenKind}
 use Rattle.sql_lex.specs.declared.token.TokenKind.TheVariants as kind
-use Rattle.sql_lex.specs.inner.Tokens.{tokens_of}
 use Rattle.geo_script.specs.declared.mark.Mark.{Mark}
 use Rattle.geo_script.specs.declared.mark.Mark.TheVariants as mark
 
@@ -34,19 +30,3 @@ mark_of (kind.Keyword keyword) = keyword_mark keyword
 mark_of (kind.Int value) = mark.Number value
 mark_of (kind.Text _) = mark.Other
 mark_of (kind.Symbol symbol) = symbol_mark symbol
-
--- what the tokens of a text are
-abbrev pub if_tokens : Result (List Token) LexFault → Option (List Mark)
-if_tokens (Ok tokens) = Some (map (λ token. mark_of token.kind) tokens)
-if_tokens (Err _) = None
-
-unfoldable pub marks_of : List ℕ → Option (List Mark)
-marks_of text = if_tokens (tokens_of text)
-
-abbrev pub is_comma : Mark → Bool
-is_comma mark.Comma = true
-is_comma _ = false
-
-abbrev pub is_close : Mark → Bool
-is_close mark.Close = true
-is_close _ = false

@@ -25,8 +25,7 @@ use Rattle.geo_script.specs.declared.script.Form.TheVariants.{Play, Run}
 use Rattle.geo_script.specs.declared.script.Script.{Script}
 use Rattle.geo_script.specs.Lines.{lines_of, spoken_from}
 use Rattle.geo_script.specs.Marks.{mark_of}
-use Rattle.geo_script.specs.Scripts.{title}
-use Rattle.geo_script.specs.TableLines.{column_place, table_with, add_index}
+use Rattle.geo_script.specs.Tables.{column_place, table_with, add_index}
 
 -- ---- event lines
 
@@ -133,10 +132,10 @@ IsLawful Run events = IsDistinct nat_eq (along crashed_of events) × HasFewSessi
 -- ---- tables and indexes
 
 -- the marks of a kind: TEXT alone takes as many bytes as a text may have
-abbrev pub IsKind : Kind → List Mark → Type 0
-IsKind kind.Int marks = marks ≡ mark.Int ∷ []
-IsKind kind.Truth marks = marks ≡ mark.Bool ∷ []
-IsKind (kind.Text max) marks =
+abbrev pub SpellsKind : Kind → List Mark → Type 0
+SpellsKind kind.Int marks = marks ≡ mark.Int ∷ []
+SpellsKind kind.Truth marks = marks ≡ mark.Bool ∷ []
+SpellsKind (kind.Text max) marks =
     (max ≤ MAX_TEXT_BYTES)
     × (((max ≡ MAX_TEXT_BYTES) × (marks ≡ mark.Text ∷ [])) ⊎ (marks ≡ mark.Text ∷ mark.Open ∷ mark.Number (pos max) ∷ mark.Close ∷ []))
 
@@ -146,9 +145,9 @@ if_so true marks = marks
 if_so false marks = []
 
 -- a name, a kind, and then NOT NULL and KEY where they hold
-pub record IsColumn (column : Column) (marks : List Mark) : Type 0 where
+pub record SpellsColumn (column : Column) (marks : List Mark) : Type 0 where
   pub kind : List Mark
-  pub spells : IsKind column.def.kind kind
+  pub spells : SpellsKind column.def.kind kind
   pub whole : marks ≡ mark.Name column.def.name ∷ (kind ++ (if_so column.def.not_null (mark.Not ∷ mark.Null ∷ []) ++ if_so column.is_key (mark.Key ∷ [])))
 
 -- each item's marks, with a comma between each two
@@ -175,7 +174,7 @@ pub record DeclaresTable (line : List ℕ) (table : TableDef) : Type 0 where
   pub columns : List Column
   pub cut : line ≡ codes "table " ++ text
   pub tokens : HasMarks text marks
-  pub spells : IsNamedList IsColumn table.name columns marks
+  pub spells : IsNamedList SpellsColumn table.name columns marks
   pub is : table ≡ table_with table.name columns
 
 -- the columns of the table with these names stand at these places
@@ -212,6 +211,11 @@ AreDeclared tables (line ∷ lines) all =
     (more : List TableDef) × IsUtf8 line.1 × Declares tables line.1 more × IsSchema more × AreDeclared more lines all
 
 -- ---- whole scripts
+
+-- line 1
+abbrev pub title : Form → List ℕ
+title Play = codes "geogauss play 1"
+title Run = codes "geogauss run 1"
 
 -- the lines are those of the script
 pub record IsScript (form : Form) (lines : List (List ℕ)) (script : Script) : Type 0 where

@@ -11,10 +11,10 @@ use Rattle.geo_script.specs.declared.fault.ScriptKind.TheVariants.{NotUtf8, BadH
 use Rattle.geo_script.specs.declared.limits.TheConstants.{STATEMENT_BYTES, SESSIONS_PER_RUN}
 use Rattle.geo_script.specs.declared.script.Form.{Form}
 use Rattle.geo_script.specs.declared.script.Form.TheVariants.{Play, Run}
-use Rattle.geo_script.specs.EventWords.{IsWord, HasWords}
-use Rattle.geo_script.specs.Past.{RunPast, has_crash, has_session}
-use Rattle.geo_script.specs.Scripts.{title}
-use Rattle.geo_script.specs.Spelling.{Types, IsOfForm, IsWithin, event_text, Declares}
+use Rattle.geo_script.specs.Words.{IsWord}
+use Rattle.geo_script.specs.EventWords.{HasWords}
+use Rattle.geo_script.specs.inner.Past.{RunPast, has_crash, has_session}
+use Rattle.geo_script.specs.Spelling.{title, Types, IsOfForm, IsWithin, event_text, Declares}
 
 -- ---- the first two lines
 
@@ -46,12 +46,12 @@ abbrev pub Begins : List ℕ → List ℕ → Type 0
 Begins word line = (line ≡ word) ⊎ ((rest : List ℕ) × (line ≡ word ++ (codes " " ++ rest)))
 
 -- what stands before a space and the index's name, or before a space and `on`
-abbrev pub IsFront : List ℕ → Type 0
-IsFront front = (front ≡ codes "index") ⊎ ((name : List ℕ) × IsWord name × (front ≡ codes "index " ++ name))
+abbrev pub IsIndexFront : List ℕ → Type 0
+IsIndexFront front = (front ≡ codes "index") ⊎ ((name : List ℕ) × IsWord name × (front ≡ codes "index " ++ name))
 
 -- nothing, or one more space, stands where the index's name or `on` has to
 abbrev pub HasEmptyWord : List ℕ → Type 0
-HasEmptyWord line = (front : List ℕ) × IsFront front × Begins (front ++ codes " ") line
+HasEmptyWord line = (front : List ℕ) × IsIndexFront front × Begins (front ++ codes " ") line
 
 -- the line declares a table or an index with which the tables are a schema
 abbrev pub CanStand : List TableDef → List ℕ → Type 0

@@ -1,5 +1,5 @@
 ghost use Rattle.std.specs.Prelude.{◌≡◌};
-ghost use Rattle.geo_script.specs.declared.fault.ReadFault.TheVariants as read_fault;
+ghost use Rattle.geo_script.specs.declared.fault.ScriptRefusal.TheVariants as refusal;
 
 use geo_base::NoMemory;
 use std::alloc::{AllocError, AllocFailed};
@@ -44,48 +44,48 @@ pub struct ScriptFault {
 
 /// Why no script was read.
 #[derive(Clone, Copy, Debug, PartialEq, Eq)]
-pub enum ReadFault {
+pub enum ScriptRefusal {
     /// The bytes are no script.
     Script(ScriptFault),
     /// There was no memory for what was read.
     NoMemory,
 }
 
-impl From<NoMemory> for ReadFault {
-    ghost from_gives = { λ _ fault. fault ≡ read_fault.NoMemory };
+impl From<NoMemory> for ScriptRefusal {
+    ghost from_gives = { λ _ fault. fault ≡ refusal.NoMemory };
 
-    fn from(_e: NoMemory) -> ReadFault {
-        ReadFault::NoMemory
+    fn from(_e: NoMemory) -> ScriptRefusal {
+        ScriptRefusal::NoMemory
     }
 }
 
-impl From<AllocError> for ReadFault {
-    ghost from_gives = { λ _ fault. fault ≡ read_fault.NoMemory };
+impl From<AllocError> for ScriptRefusal {
+    ghost from_gives = { λ _ fault. fault ≡ refusal.NoMemory };
 
-    fn from(_e: AllocError) -> ReadFault {
-        ReadFault::NoMemory
+    fn from(_e: AllocError) -> ScriptRefusal {
+        ScriptRefusal::NoMemory
     }
 }
 
-impl<T: Drop> From<AllocFailed<T>> for ReadFault {
-    ghost from_gives = { λ _ fault. fault ≡ read_fault.NoMemory };
+impl<T: Drop> From<AllocFailed<T>> for ScriptRefusal {
+    ghost from_gives = { λ _ fault. fault ≡ refusal.NoMemory };
 
-    fn from(_e: AllocFailed<T>) -> ReadFault {
-        ReadFault::NoMemory
+    fn from(_e: AllocFailed<T>) -> ScriptRefusal {
+        ScriptRefusal::NoMemory
     }
 }
 
-impl From<ScriptFault> for ReadFault {
-    ghost from_gives = { λ e fault. fault ≡ read_fault.Script e };
+impl From<ScriptFault> for ScriptRefusal {
+    ghost from_gives = { λ e fault. fault ≡ refusal.Script e };
 
-    fn from(e: ScriptFault) -> ReadFault {
-        ReadFault::Script(e)
+    fn from(e: ScriptFault) -> ScriptRefusal {
+        ScriptRefusal::Script(e)
     }
 }
 
 /// The line with this number is the first bad one.
-pub fn bad(line: u32, kind: ScriptKind) -> ReadFault
-    ensures { result ≡ read_fault.Script (record { line = line; kind = kind }) }
+pub fn bad(line: u32, kind: ScriptKind) -> ScriptRefusal
+    ensures { result ≡ refusal.Script (record { line = line; kind = kind }) }
 {
-    ReadFault::Script(ScriptFault { line, kind })
+    ScriptRefusal::Script(ScriptFault { line, kind })
 }

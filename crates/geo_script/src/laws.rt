@@ -4,7 +4,7 @@ ghost use Rattle.geo_script.specs.declared.fault.ScriptFault.{ScriptFault};
 ghost use Rattle.geo_script.specs.declared.script.Form.{Form};
 ghost use Rattle.geo_script.specs.declared.script.Script.{Script};
 ghost use Rattle.geo_script.specs.Faults.{IsFault};
-ghost use Rattle.geo_script.specs.Scripts.{script_of};
+ghost use Rattle.geo_script.specs.inner.Scripts.{script_of};
 ghost use Rattle.geo_script.specs.Spelling.{IsScriptText};
 
 /// A text has a script exactly where it spells it: its two first lines, one line for each table and index

@@ -18,7 +18,7 @@ mod verb;
 mod word;
 
 pub use event::{Event, Sealing};
-pub use fault::{ReadFault, ScriptFault, ScriptKind};
+pub use fault::{ScriptRefusal, ScriptFault, ScriptKind};
 pub use laws::{faults_are_first_bad_lines, scripts_are_their_texts};
 pub use reading::read_script;
 pub use script::{EventAt, EventAtList, Form, Script};

@@ -2,6 +2,7 @@
 ghost use Rattle.std.specs.Prelude.{◌≡◌, ◌<◌, ◌^◌, length, map, IfOk};
 ghost use Rattle.std.specs.Option.{option_map};
 ghost use Rattle.geo_script.specs.Marks as spec;
+ghost use Rattle.geo_script.specs.inner.Marks as inner;
 
 use geo_base::{NoMemory, Txt};
 use sql_lex::{Keyword, LexFault, Symbol, Token, TokenKind, lex};
@@ -84,10 +85,10 @@ fn each_mark(alloc: Global, tokens: Vec<Token>) -> Result<Vec<Mark>, NoMemory>
 }
 
 /// What the tokens of the text are, if it is cut into tokens.
-#[tactic(auto, unfolding(crate::specs::Marks::marks_of))]
+#[tactic(auto, unfolding(crate::specs::inner::Marks::marks_of))]
 pub fn marks_of(alloc: Global, text: &str) -> Result<Option<Vec<Mark>>, NoMemory>
     requires { length text.now < 2 ^ 32 }
-    ensures { IfOk result (λ found. option_map (λ marks. marks.items) found ≡ spec.marks_of text.now) }
+    ensures { IfOk result (λ found. option_map (λ marks. marks.items) found ≡ inner.marks_of text.now) }
 {
     match lex(alloc, text) {
         Ok(tokens) => Ok(Some(each_mark(alloc, tokens)?)),
@@ -98,14 +99,14 @@ pub fn marks_of(alloc: Global, text: &str) -> Result<Option<Vec<Mark>>, NoMemory
 
 /// The mark is a comma.
 pub fn is_comma(mark: &Mark) -> bool
-    ensures { result ≡ spec.is_comma mark.now }
+    ensures { result ≡ inner.is_comma mark.now }
 {
     matches!(mark, Mark::Comma)
 }
 
 /// The mark is a closing parenthesis.
 pub fn is_close(mark: &Mark) -> bool
-    ensures { result ≡ spec.is_close mark.now }
+    ensures { result ≡ inner.is_close mark.now }
 {
     matches!(mark, Mark::Close)
 }

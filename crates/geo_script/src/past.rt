@@ -1,5 +1,5 @@
 ghost use Rattle.std.specs.Prelude.{◌≡◌, length, OnOk};
-ghost use Rattle.geo_script.specs.Past as spec;
+ghost use Rattle.geo_script.specs.inner.Past as spec;
 
 use crate::event::Event;
 use crate::script::Form;
@@ -15,7 +15,7 @@ pub struct Past {
 }
 
 impl Model for Past {
-    ghost use Rattle.geo_script.specs.Past.{RunPast};
+    ghost use Rattle.geo_script.specs.inner.Past.{RunPast};
 
     ghost Value = { RunPast };
 

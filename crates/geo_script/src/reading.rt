@@ -3,10 +3,10 @@ ghost use Rattle.std.specs.Prelude.{◌≡◌, ◌≤◌, length, None, IfOk, If
 ghost use Rattle.geo_base.specs.declared.limits.TheConstants.{SCRIPT_BYTES};
 ghost use Rattle.geo_schema.specs.Schemas.{IsSchema};
 ghost use Rattle.geo_script.specs.declared.script.Script.{Script};
-ghost use Rattle.geo_script.specs.Answers.{Answers};
-ghost use Rattle.geo_script.specs.Faults.{IsReadFault};
+ghost use Rattle.geo_script.specs.inner.Answers.{Answers};
+ghost use Rattle.geo_script.specs.Faults.{IsRefusal};
 ghost use Rattle.geo_script.specs.Lines.{lines_of};
-ghost use Rattle.geo_script.specs.Scripts as spec;
+ghost use Rattle.geo_script.specs.inner.Scripts as spec;
 ghost use Rattle.geo_script.specs.Spelling.{IsScriptText};
 
 mod column;
@@ -21,7 +21,7 @@ mod listed;
 mod table;
 mod words;
 
-use crate::fault::{ReadFault, ScriptKind, bad};
+use crate::fault::{ScriptRefusal, ScriptKind, bad};
 use crate::script::{Form, Script};
 use declared::read_tables;
 use events::read_events;
@@ -35,19 +35,19 @@ use std::alloc::Global;
 /// The script that the bytes spell. A text that is none is refused at its first bad line, or as too long.
 /// Takes one pass over the bytes; each line that declares a table or an index copies the tables above it, of
 /// which there are at most 64.
-pub fn read_script(alloc: Global, bytes: &[u8], form: Form) -> Result<Script, ReadFault>
+pub fn read_script(alloc: Global, bytes: &[u8], form: Form) -> Result<Script, ScriptRefusal>
     ensures exact { Answers (λ script. script) result (spec.script_of form bytes.now) }
     ensures spelled { IfOk result (λ script. IsScriptText form bytes.now script) }
     ensures only { (script : Script) → IsScriptText form bytes.now script →
-        MatchResult result (λ found. found ≡ script) (λ e. e ≡ ReadFault.NoMemory) }
-    ensures fault { IfErr result (λ e. IsReadFault form bytes.now e) }
+        MatchResult result (λ found. found ≡ script) (λ e. e ≡ ScriptRefusal.NoMemory) }
+    ensures fault { IfErr result (λ e. IsRefusal form bytes.now e) }
 {
     read_text(alloc, form, bytes)
 }
 
 /// The script of a text, which has at most 16,777,216 bytes.
-#[tactic(auto, unfolding(crate::specs::Scripts::script_of))]
-fn read_text(alloc: Global, form: Form, bytes: &[u8]) -> Result<Script, ReadFault>
+#[tactic(auto, unfolding(crate::specs::inner::Scripts::script_of))]
+fn read_text(alloc: Global, form: Form, bytes: &[u8]) -> Result<Script, ScriptRefusal>
     ensures { Answers (λ script. script) result (spec.script_of form bytes.now) }
 {
     if bytes.len() <= SCRIPT_BYTES {
@@ -58,8 +58,8 @@ fn read_text(alloc: Global, form: Form, bytes: &[u8]) -> Result<Script, ReadFaul
 }
 
 /// The script of all lines.
-#[tactic(auto, unfolding(crate::specs::Scripts::script_of_lines))]
-fn read_lines(alloc: Global, form: Form, bytes: &[u8]) -> Result<Script, ReadFault>
+#[tactic(auto, unfolding(crate::specs::inner::Scripts::script_of_lines))]
+fn read_lines(alloc: Global, form: Form, bytes: &[u8]) -> Result<Script, ScriptRefusal>
     requires { length bytes.now ≤ SCRIPT_BYTES }
     ensures { Answers (λ script. script) result (spec.script_of_lines form (lines_of bytes.now)) }
 {
@@ -79,8 +79,8 @@ fn read_lines(alloc: Global, form: Form, bytes: &[u8]) -> Result<Script, ReadFau
 }
 
 /// The script of the lines behind the first two, for this number of regions.
-#[tactic(auto, unfolding(crate::specs::Scripts::body_of))]
-fn read_body(alloc: Global, form: Form, regions: u8, bytes: &[u8]) -> Result<Script, ReadFault>
+#[tactic(auto, unfolding(crate::specs::inner::Scripts::body_of))]
+fn read_body(alloc: Global, form: Form, regions: u8, bytes: &[u8]) -> Result<Script, ScriptRefusal>
     requires regions { 1 ≤ regions }
     requires short { length bytes.now ≤ SCRIPT_BYTES }
     ensures { Answers (λ script. script) result (spec.body_of form regions (lines_of bytes.now)) }

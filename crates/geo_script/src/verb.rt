@@ -1,7 +1,7 @@
 //! The first words of event lines.
 ghost use Rattle.std.specs.Prelude.{◌≡◌, map};
 ghost use Rattle.std.specs.Str.{bytes_eq};
-ghost use Rattle.geo_script.specs.Verbs as spec;
+ghost use Rattle.geo_script.specs.inner.Verbs as spec;
 
 /// The first word of an event line.
 #[derive(Clone, Copy, Debug, PartialEq, Eq)]
@@ -52,7 +52,7 @@ fn lookup(mut table: &[(&[u8], Verb)], word: &[u8]) -> Option<Verb>
 }
 
 /// The verb that the word is.
-#[tactic(auto, unfolding(crate::specs::Verbs::verb_of, crate::specs::Verbs::verbs))]
+#[tactic(auto, unfolding(crate::specs::inner::Verbs::verb_of, crate::specs::inner::Verbs::verbs))]
 pub fn verb_of(word: &[u8]) -> Option<Verb>
     ensures { result ≡ spec.verb_of word.now }
 {

@@ -1,6 +1,6 @@
 //! Columns of tables.
 ghost use Rattle.std.specs.Prelude.{◌≡◌, IfOk};
-ghost use Rattle.geo_script.specs.TableLines as spec;
+ghost use Rattle.geo_script.specs.inner.TableLines as spec;
 
 use crate::column::{Column, Typed};
 use crate::mark::Mark;
@@ -10,7 +10,7 @@ use geo_schema::{ColumnDef, Kind};
 use std::alloc::Global;
 
 /// A column of the kind, with what may stand behind that: `NOT NULL`, then `KEY`.
-#[tactic(auto, unfolding(crate::specs::TableLines::typed))]
+#[tactic(auto, unfolding(crate::specs::inner::TableLines::typed))]
 fn typed(kind: Kind, marks: &[Mark]) -> Option<Typed>
     ensures { result ≡ spec.typed kind marks.now }
 {
@@ -40,7 +40,7 @@ fn sized(max: i64, marks: &[Mark]) -> Option<Typed>
 }
 
 /// A text column, by what stands behind `TEXT`.
-#[tactic(auto, unfolding(crate::specs::TableLines::text_column))]
+#[tactic(auto, unfolding(crate::specs::inner::TableLines::text_column))]
 fn text_column(marks: &[Mark]) -> Option<Typed>
     ensures { result ≡ spec.text_column marks.now }
 {
@@ -56,7 +56,7 @@ fn text_column(marks: &[Mark]) -> Option<Typed>
 }
 
 /// A column, by what stands behind its name.
-#[tactic(auto, unfolding(crate::specs::TableLines::typed_column))]
+#[tactic(auto, unfolding(crate::specs::inner::TableLines::typed_column))]
 fn typed_column(marks: &[Mark]) -> Option<Typed>
     ensures { result ≡ spec.typed_column marks.now }
 {
@@ -83,7 +83,7 @@ fn named_column(alloc: Global, name: &Txt, typed: Typed) -> Result<Column, NoMem
 }
 
 /// A column: its name, its type, and what may stand behind it.
-#[tactic(auto, unfolding(crate::specs::TableLines::column_of))]
+#[tactic(auto, unfolding(crate::specs::inner::TableLines::column_of))]
 pub fn column_of(alloc: Global, marks: &[Mark]) -> Result<Option<Column>, NoMemory>
     ensures { IfOk result (λ found. found ≡ spec.column_of marks.now) }
 {

@@ -2,11 +2,11 @@
 ghost use Rattle.std.specs.Prelude.{◌≡◌, ◌+◌, ◌<◌, ◌^◌, [], None, Ok, Err, length, codes, IfOk, MatchResult};
 ghost use Rattle.std.specs.Str.{bytes_eq};
 ghost use Rattle.geo_schema.specs.Schemas.{IsSchema};
-ghost use Rattle.geo_script.specs.Answers.{Answers, spoken, number_after};
-ghost use Rattle.geo_script.specs.Scripts.{head_of};
-ghost use Rattle.geo_script.specs.TableLines as spec;
+ghost use Rattle.geo_script.specs.inner.Answers.{Answers, spoken, number_after};
+ghost use Rattle.geo_script.specs.inner.Scripts.{head_of};
+ghost use Rattle.geo_script.specs.inner.TableLines as spec;
 
-use crate::fault::{ReadFault, ScriptKind, bad};
+use crate::fault::{ScriptRefusal, ScriptKind, bad};
 use crate::reading::index::with_index;
 use crate::reading::lines::{Rest, next_spoken, text_of};
 use crate::reading::table::with_table;
@@ -29,7 +29,7 @@ fn alone(word: &str) -> ScriptKind
 }
 
 /// The tables with what the text declares.
-#[tactic(auto, unfolding(crate::specs::TableLines::declared_by))]
+#[tactic(auto, unfolding(crate::specs::inner::TableLines::declared_by))]
 fn declared_by(
     alloc: Global,
     tables: Vec<TableDef>,
@@ -55,7 +55,7 @@ fn declared_by(
 }
 
 /// The tables with what the line declares.
-#[tactic(auto, unfolding(crate::specs::TableLines::table_line))]
+#[tactic(auto, unfolding(crate::specs::inner::TableLines::table_line))]
 fn table_line(
     alloc: Global,
     tables: Vec<TableDef>,
@@ -82,7 +82,7 @@ fn is_begin(line: &[u8]) -> bool
 }
 
 /// The tables of all lines up to `begin`, and the rest behind that line.
-pub fn read_tables(alloc: Global, rest: Rest<'_>) -> Result<(Vec<TableDef>, Rest<'_>), ReadFault>
+pub fn read_tables(alloc: Global, rest: Rest<'_>) -> Result<(Vec<TableDef>, Rest<'_>), ScriptRefusal>
     requires { rest.number + length rest.bytes.now < 2 ^ 32 }
     ensures head { Answers (λ head. (head.0.items, spoken head.1)) result (head_of (number_after rest.entry) [] (spoken rest.entry)) }
     ensures schema { IfOk result (λ head. IsSchema head.0.items) }

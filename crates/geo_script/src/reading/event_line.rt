@@ -1,7 +1,7 @@
 //! Event lines, by what stands behind their first word.
 ghost use Rattle.std.specs.Prelude.{◌≡◌, ◌≤◌, ◌<◌, Ok, Err, IfOk, MatchResult};
 ghost use Rattle.geo_script.specs.declared.event.Event.TheVariants as event;
-ghost use Rattle.geo_script.specs.EventLines as spec;
+ghost use Rattle.geo_script.specs.inner.EventLines as spec;
 
 use crate::event::Event;
 use crate::fault::ScriptKind;
@@ -34,7 +34,7 @@ fn region(regions: u8, word: &str) -> Result<RegionNo, ScriptKind>
 }
 
 /// A region and a session of it, with a dot between them.
-#[tactic(auto, unfolding(crate::specs::EventLines::place))]
+#[tactic(auto, unfolding(crate::specs::inner::EventLines::place))]
 fn place(regions: u8, word: &str) -> Result<(RegionNo, u8), ScriptKind>
     requires { 1 ≤ regions }
     ensures { result ≡ spec.place regions word.now }
@@ -48,7 +48,7 @@ fn place(regions: u8, word: &str) -> Result<(RegionNo, u8), ScriptKind>
 }
 
 /// The session and the statement behind `sql`.
-#[tactic(auto, unfolding(crate::specs::EventLines::sql))]
+#[tactic(auto, unfolding(crate::specs::inner::EventLines::sql))]
 fn sql_parts(regions: u8, rest: &str) -> Result<(RegionNo, u8, &str), ScriptKind>
     requires { 1 ≤ regions }
     ensures { MatchResult result
@@ -85,7 +85,7 @@ pub fn sql(alloc: Global, regions: u8, rest: &str) -> Result<Result<Event, Scrip
 }
 
 /// A session, behind `outcome`.
-#[tactic(auto, unfolding(crate::specs::EventLines::outcome))]
+#[tactic(auto, unfolding(crate::specs::inner::EventLines::outcome))]
 pub fn outcome(regions: u8, rest: &str) -> Result<Event, ScriptKind>
     requires { 1 ≤ regions }
     ensures { result ≡ spec.outcome regions rest.now }
@@ -98,7 +98,7 @@ pub fn outcome(regions: u8, rest: &str) -> Result<Event, ScriptKind>
 }
 
 /// A region alone.
-#[tactic(auto, unfolding(crate::specs::EventLines::only_region))]
+#[tactic(auto, unfolding(crate::specs::inner::EventLines::only_region))]
 pub fn only_region(regions: u8, rest: &str) -> Result<RegionNo, ScriptKind>
     requires { 1 ≤ regions }
     ensures { result ≡ spec.only_region regions rest.now }
@@ -111,7 +111,7 @@ pub fn only_region(regions: u8, rest: &str) -> Result<RegionNo, ScriptKind>
 }
 
 /// Packets, behind `deliver`.
-#[tactic(auto, unfolding(crate::specs::EventLines::deliver))]
+#[tactic(auto, unfolding(crate::specs::inner::EventLines::deliver))]
 pub fn deliver(rest: &str) -> Result<Event, ScriptKind>
     ensures { result ≡ spec.deliver rest.now }
 {
@@ -128,7 +128,7 @@ pub fn deliver(rest: &str) -> Result<Event, ScriptKind>
 }
 
 /// Two regions and an epoch, behind `fetch`.
-#[tactic(auto, unfolding(crate::specs::EventLines::fetch))]
+#[tactic(auto, unfolding(crate::specs::inner::EventLines::fetch))]
 pub fn fetch(regions: u8, rest: &str) -> Result<Event, ScriptKind>
     requires { 1 ≤ regions }
     ensures { result ≡ spec.fetch regions rest.now }
@@ -151,7 +151,7 @@ pub fn fetch(regions: u8, rest: &str) -> Result<Event, ScriptKind>
 }
 
 /// A region and a seat of its round, behind `work`.
-#[tactic(auto, unfolding(crate::specs::EventLines::work))]
+#[tactic(auto, unfolding(crate::specs::inner::EventLines::work))]
 pub fn work(regions: u8, rest: &str) -> Result<Event, ScriptKind>
     requires { 1 ≤ regions }
     ensures { result ≡ spec.work regions rest.now }
@@ -168,7 +168,7 @@ pub fn work(regions: u8, rest: &str) -> Result<Event, ScriptKind>
 }
 
 /// A region, and what becomes of its open epoch, behind `crash`.
-#[tactic(auto, unfolding(crate::specs::EventLines::crash))]
+#[tactic(auto, unfolding(crate::specs::inner::EventLines::crash))]
 pub fn crash(regions: u8, rest: &str) -> Result<Event, ScriptKind>
     requires { 1 ≤ regions }
     ensures { result ≡ spec.crash regions rest.now }
@@ -194,7 +194,7 @@ fn fresh_region(regions: u8, past: &Past, word: &str) -> Result<RegionNo, Script
 }
 
 /// A region and an epoch, behind `crash` in a run.
-#[tactic(auto, unfolding(crate::specs::EventLines::crash_after))]
+#[tactic(auto, unfolding(crate::specs::inner::EventLines::crash_after))]
 pub fn crash_after(regions: u8, past: &Past, rest: &str) -> Result<Event, ScriptKind>
     requires { 1 ≤ regions }
     ensures { result ≡ spec.crash_after regions past.now rest.now }

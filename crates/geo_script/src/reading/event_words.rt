@@ -1,13 +1,13 @@
 //! The words of event lines, behind the first one.
 ghost use Rattle.std.specs.Prelude.{◌≡◌, Some, None, Ok, Err, MatchOption, MatchResult, codes, IsTrue, ◌↔◌};
 ghost use Rattle.std.specs.Str.{bytes_eq};
-ghost use Rattle.geo_script.specs.EventLines as spec;
+ghost use Rattle.geo_script.specs.inner.EventLines as spec;
 
 use crate::event::Sealing;
 use crate::reading::words::{cut_at_space, is_word, three_words, two_words};
 
 /// A session's place, and the statement behind the next space.
-#[tactic(auto, unfolding(crate::specs::EventLines::statement_parts))]
+#[tactic(auto, unfolding(crate::specs::inner::EventLines::statement_parts))]
 pub fn statement_parts(rest: &str) -> Option<(&str, &str)>
     ensures { MatchOption result
         (spec.statement_parts rest.now ≡ None)
@@ -22,7 +22,7 @@ pub fn statement_parts(rest: &str) -> Option<(&str, &str)>
 }
 
 /// The first packet and the last one, or one that is both.
-#[tactic(auto, unfolding(crate::specs::EventLines::packet_words))]
+#[tactic(auto, unfolding(crate::specs::inner::EventLines::packet_words))]
 pub fn packet_words(rest: &str) -> Option<(&str, &str)>
     ensures { MatchOption result
         (spec.packet_words rest.now ≡ None)
@@ -36,7 +36,7 @@ pub fn packet_words(rest: &str) -> Option<(&str, &str)>
 }
 
 /// What becomes of the open epoch, by the two words behind a region.
-#[tactic(auto, unfolding(crate::specs::EventLines::sealing_of))]
+#[tactic(auto, unfolding(crate::specs::inner::EventLines::sealing_of))]
 fn sealing_of(sealing: &str, fate: &str) -> Option<Sealing>
     ensures { result ≡ spec.sealing_of sealing.now fate.now }
 {
@@ -52,7 +52,7 @@ fn sealing_of(sealing: &str, fate: &str) -> Option<Sealing>
 }
 
 /// A region alone, or one and what becomes of its open epoch.
-#[tactic(auto, unfolding(crate::specs::EventLines::crash_words))]
+#[tactic(auto, unfolding(crate::specs::inner::EventLines::crash_words))]
 pub fn crash_words(rest: &str) -> Option<(&str, Sealing)>
     ensures { MatchOption result
         (spec.crash_words rest.now ≡ None)
@@ -67,7 +67,7 @@ pub fn crash_words(rest: &str) -> Option<(&str, Sealing)>
 }
 
 /// A region and an epoch, with the word `after` between them.
-#[tactic(auto, unfolding(crate::specs::EventLines::after_words))]
+#[tactic(auto, unfolding(crate::specs::inner::EventLines::after_words))]
 pub fn after_words(rest: &str) -> Option<(&str, &str)>
     ensures { MatchOption result
         (spec.after_words rest.now ≡ None)

@@ -1,14 +1,14 @@
 //! Event lines, from the line `begin` on.
 ghost use Rattle.std.specs.Prelude.{◌≡◌, ◌≢◌, ◌+◌, ◌<◌, ◌≤◌, ◌^◌, Some, None, Ok, Err, length, IfOk, MatchOption, MatchResult};
 ghost use Rattle.geo_script.specs.declared.script.Form.TheVariants.{Play, Run};
-ghost use Rattle.geo_script.specs.Answers.{Answers, spoken};
-ghost use Rattle.geo_script.specs.EventLines as spec;
+ghost use Rattle.geo_script.specs.inner.Answers.{Answers, spoken};
+ghost use Rattle.geo_script.specs.inner.EventLines as spec;
 ghost use Rattle.geo_script.specs.declared.verb.Verb.TheVariants.{Sql};
-ghost use Rattle.geo_script.specs.Past.{nothing_yet};
-ghost use Rattle.geo_script.specs.Scripts.{events_of};
+ghost use Rattle.geo_script.specs.inner.Past.{nothing_yet};
+ghost use Rattle.geo_script.specs.inner.Scripts.{events_of};
 
 use crate::event::Event;
-use crate::fault::{ReadFault, ScriptKind, bad};
+use crate::fault::{ScriptRefusal, ScriptKind, bad};
 use crate::limits::SESSIONS_PER_RUN;
 use crate::past::Past;
 use crate::reading::event_line::{
@@ -22,7 +22,7 @@ use geo_base::NoMemory;
 use std::alloc::Global;
 
 /// An event line of a play, by its first word and what stands behind the next space.
-#[tactic(auto, unfolding(crate::specs::EventLines::play_event))]
+#[tactic(auto, unfolding(crate::specs::inner::EventLines::play_event))]
 fn play_event(
     alloc: Global,
     regions: u8,
@@ -39,7 +39,7 @@ fn play_event(
 }
 
 /// An event line of a play that has no statement.
-#[tactic(auto, unfolding(crate::specs::EventLines::play_event))]
+#[tactic(auto, unfolding(crate::specs::inner::EventLines::play_event))]
 fn plain_event(regions: u8, verb: Verb, rest: &str) -> Result<Event, ScriptKind>
     requires regions { 1 ≤ regions }
     requires plain { verb ≢ Sql }
@@ -85,7 +85,7 @@ fn if_admitted(past: &Past, event: Event) -> Result<Event, ScriptKind>
 }
 
 /// An event line of a run, which has statements and crashes alone.
-#[tactic(auto, unfolding(crate::specs::EventLines::run_event))]
+#[tactic(auto, unfolding(crate::specs::inner::EventLines::run_event))]
 fn run_event(
     alloc: Global,
     regions: u8,
@@ -107,7 +107,7 @@ fn run_event(
 }
 
 /// The first word of the text, if it is a verb, and what stands behind the next space.
-#[tactic(auto, unfolding(crate::specs::EventLines::verb_and_rest))]
+#[tactic(auto, unfolding(crate::specs::inner::EventLines::verb_and_rest))]
 fn verb_and_rest(text: &str) -> Option<(Verb, &str)>
     ensures { MatchOption result
         (spec.verb_and_rest text.now ≡ None)
@@ -119,7 +119,7 @@ fn verb_and_rest(text: &str) -> Option<(Verb, &str)>
 }
 
 /// The event that the text asks for.
-#[tactic(auto, unfolding(crate::specs::EventLines::event_of, crate::specs::EventLines::form_event))]
+#[tactic(auto, unfolding(crate::specs::inner::EventLines::event_of, crate::specs::inner::EventLines::form_event))]
 fn event_of(
     alloc: Global,
     form: Form,
@@ -140,7 +140,7 @@ fn event_of(
 }
 
 /// The event that the line asks for.
-#[tactic(auto, unfolding(crate::specs::EventLines::event_line))]
+#[tactic(auto, unfolding(crate::specs::inner::EventLines::event_line))]
 fn event_line(
     alloc: Global,
     form: Form,
@@ -163,7 +163,7 @@ pub fn read_events(
     form: Form,
     regions: u8,
     rest: Rest<'_>,
-) -> Result<EventAtList, ReadFault>
+) -> Result<EventAtList, ScriptRefusal>
     requires regions { 1 ≤ regions }
     requires room { rest.number + length rest.bytes.now < 2 ^ 32 }
     ensures { Answers (λ events. events) result (events_of form regions nothing_yet (spoken rest.entry)) }

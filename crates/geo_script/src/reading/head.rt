@@ -1,10 +1,11 @@
 //! The lines up to `begin`.
 ghost use Rattle.std.specs.Prelude.{◌≡◌, ◌+◌, ◌≤◌, ◌<◌, ◌^◌, ◌∷◌, [], None, Ok, Err, length, IfOk, MatchResult, codes};
 ghost use Rattle.geo_base.specs.declared.limits.TheConstants.{MAX_REGIONS};
-ghost use Rattle.geo_script.specs.Answers.{Answers, spoken, number_after};
-ghost use Rattle.geo_script.specs.Scripts as spec;
+ghost use Rattle.geo_script.specs.inner.Answers.{Answers, spoken, number_after};
+ghost use Rattle.geo_script.specs.Spelling.{title};
+ghost use Rattle.geo_script.specs.inner.Scripts as spec;
 
-use crate::fault::{ReadFault, ScriptFault, ScriptKind};
+use crate::fault::{ScriptRefusal, ScriptFault, ScriptKind};
 use crate::reading::event_line::number;
 use crate::reading::lines::{Rest, next_spoken, text_of};
 use crate::reading::words::{cut_at_space, is_word};
@@ -16,7 +17,7 @@ use std::alloc::Global;
 
 /// The first line of a script of the form.
 fn title(form: Form) -> &'static str
-    ensures { result.now ≡ spec.title form }
+    ensures { result.now ≡ title form }
 {
     match form {
         Form::Play => "geogauss play 1",
@@ -25,7 +26,7 @@ fn title(form: Form) -> &'static str
 }
 
 /// The line that names the form.
-#[tactic(auto, unfolding(crate::specs::Scripts::title_line))]
+#[tactic(auto, unfolding(crate::specs::inner::Scripts::title_line))]
 pub fn title_line(form: Form, line: &[u8]) -> Result<(), ScriptKind>
     ensures { MatchResult result
         (λ _. spec.title_line form line.now ≡ Ok tt)
@@ -39,7 +40,7 @@ pub fn title_line(form: Form, line: &[u8]) -> Result<(), ScriptKind>
 }
 
 /// The word behind `regions` and a space.
-#[tactic(auto, unfolding(crate::specs::Scripts::regions_word))]
+#[tactic(auto, unfolding(crate::specs::inner::Scripts::regions_word))]
 fn regions_word(line: &str) -> Result<&str, ScriptKind>
     ensures { MatchResult result
         (λ word. spec.regions_word line.now ≡ Ok word.now)
@@ -56,7 +57,7 @@ fn regions_word(line: &str) -> Result<&str, ScriptKind>
 }
 
 /// The line that says how many regions there are.
-#[tactic(auto, unfolding(crate::specs::Scripts::regions_line))]
+#[tactic(auto, unfolding(crate::specs::inner::Scripts::regions_line))]
 pub fn regions_line(line: &[u8]) -> Result<u8, ScriptKind>
     ensures regions { result ≡ spec.regions_line line.now }
     ensures some { IfOk result (λ regions. 1 ≤ regions) }

@@ -3,8 +3,9 @@ ghost use Rattle.std.specs.Prelude.{◌≡◌, ◌≤◌, ◌<◌, ◌^◌, Some
 ghost use Rattle.std.specs.Option.{option_map, option_and_then};
 ghost use Rattle.geo_base.specs.declared.limits.TheConstants.{MAX_COLUMNS};
 ghost use Rattle.geo_schema.specs.Schemas.{IsSchema, number_of};
-ghost use Rattle.geo_script.specs.Marks as marks_spec;
-ghost use Rattle.geo_script.specs.TableLines as spec;
+ghost use Rattle.geo_script.specs.Tables.{column_place, add_index};
+ghost use Rattle.geo_script.specs.inner.Marks as marks_spec;
+ghost use Rattle.geo_script.specs.inner.TableLines as spec;
 
 use crate::fault::ScriptKind;
 use crate::mark::{Mark, marks_of};
@@ -17,7 +18,7 @@ use geo_schema::{ColumnDef, IndexDef, IndexList, PlaceList, TableDef};
 use std::alloc::Global;
 
 /// A name alone.
-#[tactic(auto, unfolding(crate::specs::TableLines::name_of))]
+#[tactic(auto, unfolding(crate::specs::inner::TableLines::name_of))]
 fn name_of(alloc: Global, marks: &[Mark]) -> Result<Option<Txt>, NoMemory>
     ensures { IfOk result (λ found. found ≡ spec.name_of marks.now) }
 {
@@ -39,7 +40,7 @@ fn only_name(alloc: Global, text: &str) -> Result<Option<Txt>, NoMemory>
 }
 
 /// The name that the word is.
-#[tactic(auto, unfolding(crate::specs::TableLines::index_name))]
+#[tactic(auto, unfolding(crate::specs::inner::TableLines::index_name))]
 fn index_name(alloc: Global, word: &str) -> Result<Option<Txt>, NoMemory>
     requires { length word.now < 2 ^ 32 }
     ensures { IfOk result (λ found. found ≡ spec.index_name word.now) }
@@ -75,7 +76,7 @@ fn listed_names(alloc: Global, marks: &[Mark]) -> Result<Option<Vec<Txt>>, NoMem
 }
 
 /// A table's name, and names in parentheses.
-#[tactic(auto, unfolding(crate::specs::TableLines::named_list))]
+#[tactic(auto, unfolding(crate::specs::inner::TableLines::named_list))]
 fn named_list(alloc: Global, marks: &[Mark]) -> Result<Option<(Txt, Vec<Txt>)>, NoMemory>
     ensures { IfOk result (λ found. option_map (λ list. (list.0, list.1.items)) found ≡ spec.named_list marks.now) }
 {
@@ -100,7 +101,7 @@ fn declared_list(alloc: Global, text: &str) -> Result<Option<(Txt, Vec<Txt>)>, N
 }
 
 /// The first word of the text, which isn't empty, and what stands behind the next space.
-#[tactic(auto, unfolding(crate::specs::TableLines::first_word))]
+#[tactic(auto, unfolding(crate::specs::inner::TableLines::first_word))]
 fn first_word(text: &str) -> Result<(&str, &str), ScriptKind>
     ensures parts { MatchResult result
         (λ p. spec.first_word text.now ≡ Ok (p.0.now, p.1.now))
@@ -115,7 +116,7 @@ fn first_word(text: &str) -> Result<(&str, &str), ScriptKind>
 }
 
 /// An index's name, and what stands behind a space, `on` and a space.
-#[tactic(auto, unfolding(crate::specs::TableLines::index_parts))]
+#[tactic(auto, unfolding(crate::specs::inner::TableLines::index_parts))]
 fn index_parts(text: &str) -> Result<(&str, &str), ScriptKind>
     ensures parts { MatchResult result
         (λ p. spec.index_parts text.now ≡ Ok (p.0.now, p.1.now))
@@ -133,7 +134,7 @@ fn index_parts(text: &str) -> Result<(&str, &str), ScriptKind>
 
 /// The place of the column with the name.
 fn column_place(columns: &[ColumnDef], name: &Txt) -> Option<usize>
-    ensures place { result ≡ spec.column_place columns.now name.now }
+    ensures place { result ≡ column_place columns.now name.now }
     ensures within { IfSome result (λ place. place < length columns.now) }
 {
     columns.iter().position(|column| column.name == *name)
@@ -146,7 +147,7 @@ fn each_place(
     names: &[Txt],
 ) -> Result<Option<Vec<u8>>, NoMemory>
     requires { length columns.now ≤ MAX_COLUMNS }
-    ensures { IfOk result (λ found. option_map (λ places. places.items) found ≡ spec.each (spec.column_place columns.now) names.now) }
+    ensures { IfOk result (λ found. option_map (λ places. places.items) found ≡ spec.each (column_place columns.now) names.now) }
 {
     let mut places = Vec::new(alloc);
     for name in names {
@@ -174,7 +175,7 @@ fn index_on(
     names: &[Txt],
 ) -> Result<Option<IndexDef>, NoMemory>
     requires { length table.now.columns ≤ MAX_COLUMNS }
-    ensures { IfOk result (λ found. found ≡ option_map (spec.index_with name) (spec.each (spec.column_place table.now.columns) names.now)) }
+    ensures { IfOk result (λ found. found ≡ option_map (spec.index_with name) (spec.each (column_place table.now.columns) names.now)) }
 {
     match each_place(alloc, table.columns.items(), names)? {
         Some(places) => {
@@ -186,7 +187,7 @@ fn index_on(
 }
 
 /// The index with the name on what a text lists, and the number of its table.
-#[tactic(auto, unfolding(crate::specs::TableLines::index_at))]
+#[tactic(auto, unfolding(crate::specs::inner::TableLines::index_at))]
 fn index_at(
     alloc: Global,
     tables: &[TableDef],
@@ -211,7 +212,7 @@ fn index_at(
 }
 
 /// The index with the name that the word is, and the number of its table.
-#[tactic(auto, unfolding(crate::specs::TableLines::index_of))]
+#[tactic(auto, unfolding(crate::specs::inner::TableLines::index_of))]
 fn index_of(
     alloc: Global,
     tables: &[TableDef],
@@ -238,7 +239,7 @@ fn add_index(
     index: IndexDef,
 ) -> Result<Vec<TableDef>, NoMemory>
     requires { at < length tables.items }
-    ensures { IfOk result (λ more. more.items ≡ spec.add_index tables.items at index) }
+    ensures { IfOk result (λ more. more.items ≡ add_index tables.items at index) }
 {
     let mut indexes = copy_items(alloc, tables[at].indexes.items())?;
     indexes.push(index)?;
@@ -247,7 +248,7 @@ fn add_index(
 }
 
 /// The tables with the index that the text declares.
-#[tactic(auto, unfolding(crate::specs::TableLines::with_index))]
+#[tactic(auto, unfolding(crate::specs::inner::TableLines::with_index))]
 pub fn with_index(
     alloc: Global,
     tables: Vec<TableDef>,

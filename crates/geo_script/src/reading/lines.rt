@@ -3,7 +3,7 @@ ghost use Rattle.std.specs.Prelude.{◌≡◌, ◌+◌, ◌<◌, ◌≤◌, ◌^
 ghost use Rattle.std.specs.Str.{is_utf8};
 ghost use Rattle.geo_script.specs.declared.fault.ScriptKind.TheVariants.{NotUtf8};
 ghost use Rattle.geo_script.specs.Lines as spec;
-ghost use Rattle.geo_script.specs.Answers.{spoken, number_after};
+ghost use Rattle.geo_script.specs.inner.Answers.{spoken, number_after};
 
 use crate::fault::ScriptKind;
 use memchr::memchr;

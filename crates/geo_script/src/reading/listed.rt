@@ -2,8 +2,8 @@
 ghost use Rattle.std.specs.Prelude.{◌≡◌, ◌<◌, Some, None, map, IfOk, MatchOption};
 ghost use Rattle.std.specs.List.{slice_split};
 ghost use Rattle.std.specs.Option.{option_map};
-ghost use Rattle.geo_script.specs.Marks.{is_comma};
-ghost use Rattle.geo_script.specs.TableLines as spec;
+ghost use Rattle.geo_script.specs.inner.Marks.{is_comma};
+ghost use Rattle.geo_script.specs.inner.TableLines as spec;
 
 use crate::mark::{Mark, is_close, is_comma};
 use geo_base::NoMemory;
@@ -25,7 +25,7 @@ fn parts(alloc: Global, marks: &[Mark]) -> Result<Vec<&[Mark]>, NoMemory>
 }
 
 /// The items of a list in parentheses.
-#[tactic(auto, unfolding(crate::specs::TableLines::listed))]
+#[tactic(auto, unfolding(crate::specs::inner::TableLines::listed))]
 pub fn listed(alloc: Global, marks: &[Mark]) -> Result<Option<Vec<&[Mark]>>, NoMemory>
     ensures { IfOk result (λ found. option_map (λ items. map (λ item. item.now) items.items) found ≡ spec.listed marks.now) }
 {

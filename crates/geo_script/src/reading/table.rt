@@ -4,8 +4,9 @@ ghost use Rattle.std.specs.Option.{option_map, option_and_then};
 ghost use Rattle.geo_base.specs.declared.limits.TheConstants.{MAX_COLUMNS};
 ghost use Rattle.geo_schema.specs.Schemas.{IsSchema};
 ghost use Rattle.geo_schema.specs.inner.Schemas.{schema_fault};
-ghost use Rattle.geo_script.specs.Marks as marks_spec;
-ghost use Rattle.geo_script.specs.TableLines as spec;
+ghost use Rattle.geo_script.specs.Tables.{key_places, table_with};
+ghost use Rattle.geo_script.specs.inner.Marks as marks_spec;
+ghost use Rattle.geo_script.specs.inner.TableLines as spec;
 
 use crate::column::Column;
 use crate::fault::ScriptKind;
@@ -33,7 +34,7 @@ fn each_column(alloc: Global, items: &[&[Mark]]) -> Result<Option<Vec<Column>>, 
 }
 
 /// The columns, of which there may be at most 32.
-#[tactic(auto, unfolding(crate::specs::TableLines::columns_of))]
+#[tactic(auto, unfolding(crate::specs::inner::TableLines::columns_of))]
 fn columns_of(alloc: Global, items: &[&[Mark]]) -> Result<Option<Vec<Column>>, NoMemory>
     ensures columns { IfOk result (λ found. option_map (λ columns. columns.items) found ≡ spec.columns_of (map (λ item. item.now) items.now)) }
     ensures few { IfOk result (λ found. IfSome found (λ columns. length columns.items ≤ MAX_COLUMNS)) }
@@ -48,7 +49,7 @@ fn columns_of(alloc: Global, items: &[&[Mark]]) -> Result<Option<Vec<Column>>, N
 /// The places of the columns that are of the key.
 fn key_places(alloc: Global, columns: &[Column]) -> Result<Vec<u8>, NoMemory>
     requires { length columns.now ≤ MAX_COLUMNS }
-    ensures { IfOk result (λ places. places.items ≡ spec.key_places 0 columns.now) }
+    ensures { IfOk result (λ places. places.items ≡ key_places 0 columns.now) }
 {
     let mut places = Vec::new(alloc);
     for (place, column) in columns.iter().enumerate() {
@@ -73,7 +74,7 @@ fn definitions(alloc: Global, columns: Vec<Column>) -> Result<Vec<ColumnDef>, No
 /// The table with the name and the columns, and no index.
 fn table_with(alloc: Global, name: &Txt, columns: Vec<Column>) -> Result<TableDef, NoMemory>
     requires { length columns.items ≤ MAX_COLUMNS }
-    ensures { IfOk result (λ table. table ≡ spec.table_with name.now columns.items) }
+    ensures { IfOk result (λ table. table ≡ table_with name.now columns.items) }
 {
     let key = PlaceList::new(key_places(alloc, columns.as_slice())?);
     let columns = ColumnList::new(definitions(alloc, columns)?);
@@ -97,7 +98,7 @@ fn listed_columns(alloc: Global, marks: &[Mark]) -> Result<Option<Vec<Column>>, 
 }
 
 /// A table: its name, and its columns in parentheses.
-#[tactic(auto, unfolding(crate::specs::TableLines::table_of))]
+#[tactic(auto, unfolding(crate::specs::inner::TableLines::table_of))]
 fn table_of(alloc: Global, marks: &[Mark]) -> Result<Option<TableDef>, NoMemory>
     ensures { IfOk result (λ found. found ≡ spec.table_of marks.now) }
 {
@@ -153,7 +154,7 @@ pub fn if_schema(
 }
 
 /// The tables with the one that the text declares.
-#[tactic(auto, unfolding(crate::specs::TableLines::with_table))]
+#[tactic(auto, unfolding(crate::specs::inner::TableLines::with_table))]
 pub fn with_table(
     alloc: Global,
     mut tables: Vec<TableDef>,

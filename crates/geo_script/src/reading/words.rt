@@ -2,7 +2,8 @@
 ghost use Rattle.std.specs.Prelude.{◌≡◌, ◌≤◌, ◌==◌, not, Some, None, length, IfSome, MatchOption};
 ghost use Rattle.std.specs.Char.{is_ascii_digit};
 ghost use Rattle.std.specs.List.{list_all};
-ghost use Rattle.geo_script.specs.Words as spec;
+ghost use Rattle.geo_script.specs.Words.{is_word};
+ghost use Rattle.geo_script.specs.inner.Words as spec;
 
 /// What stands before the first space, and what stands behind it.
 pub fn cut_at_space(text: &str) -> Option<(&str, &str)>
@@ -28,13 +29,13 @@ fn lacks_space(bytes: &[u8]) -> bool
 /// At least one byte, and no space among them.
 #[tactic(auto, unfolding(crate::specs::Words::is_word))]
 pub fn is_word(text: &str) -> bool
-    ensures { result ≡ spec.is_word text.now }
+    ensures { result ≡ is_word text.now }
 {
     !text.is_empty() && lacks_space(text.as_bytes())
 }
 
 /// Two words, with one space between them.
-#[tactic(auto, unfolding(crate::specs::Words::two_words))]
+#[tactic(auto, unfolding(crate::specs::inner::Words::two_words))]
 pub fn two_words(text: &str) -> Option<(&str, &str)>
     ensures { MatchOption result (spec.two_words text.now ≡ None) (λ p. spec.two_words text.now ≡ Some (p.0.now, p.1.now)) }
 {
@@ -47,7 +48,7 @@ pub fn two_words(text: &str) -> Option<(&str, &str)>
 }
 
 /// Three words, with one space between each two.
-#[tactic(auto, unfolding(crate::specs::Words::three_words))]
+#[tactic(auto, unfolding(crate::specs::inner::Words::three_words))]
 pub fn three_words(text: &str) -> Option<(&str, &str, &str)>
     ensures { MatchOption result (spec.three_words text.now ≡ None) (λ p. spec.three_words text.now ≡ Some (p.0.now, p.1.now, p.2.now)) }
 {
@@ -66,7 +67,7 @@ fn are_digits(bytes: &[u8]) -> bool
 }
 
 /// Digits without a leading zero.
-#[tactic(auto, unfolding(crate::specs::Words::is_numeral))]
+#[tactic(auto, unfolding(crate::specs::inner::Words::is_numeral))]
 fn is_numeral(text: &str) -> bool
     ensures { result ≡ spec.is_numeral text.now }
 {

@@ -1,5 +1,5 @@
 use Rattle.std.proofs.Common.{◌≡◌, length, map}
-use Rattle.geo_script.specs.Verbs.{lookup}
+use Rattle.geo_script.specs.inner.Verbs.{lookup}
 use Rattle.geo_script.proofs.verb.lookup.Given as goal
 
 abbrev pub invariant-loop-table : goal.invariant-loop-table

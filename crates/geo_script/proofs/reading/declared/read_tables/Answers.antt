@@ -1,7 +1,7 @@
 use Rattle.std.proofs.Common.{ap, sym, subst, refl}
 use Rattle.geo_schema.specs.Schemas.{IsSchema}
-use Rattle.geo_script.specs.Answers.{spoken, number_after}
-use Rattle.geo_script.specs.Scripts.{head_of}
+use Rattle.geo_script.specs.inner.Answers.{spoken, number_after}
+use Rattle.geo_script.specs.inner.Scripts.{head_of}
 use Rattle.geo_script.proofs.SchemaTables.{no_tables}
 use Rattle.geo_script.proofs.reading.declared.read_tables.Goals as goal
 

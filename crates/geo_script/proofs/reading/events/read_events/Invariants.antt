@@ -1,7 +1,7 @@
 use Rattle.std.proofs.Common.{◌≡◌, ◌+◌, ◌<◌, ◌^◌, length}
-use Rattle.geo_script.specs.Answers.{spoken}
-use Rattle.geo_script.specs.Past.{nothing_yet}
-use Rattle.geo_script.specs.Scripts.{events_of}
+use Rattle.geo_script.specs.inner.Answers.{spoken}
+use Rattle.geo_script.specs.inner.Past.{nothing_yet}
+use Rattle.geo_script.specs.inner.Scripts.{events_of}
 use Rattle.geo_script.proofs.EventLists.{behind}
 use Rattle.geo_script.proofs.reading.events.read_events.Given as goal
 

@@ -1,5 +1,5 @@
 use Rattle.std.proofs.Common.{map}
-use Rattle.geo_script.specs.TableLines.{name_of}
+use Rattle.geo_script.specs.inner.TableLines.{name_of}
 use Rattle.geo_script.proofs.Lists.{AreRead}
 use Rattle.geo_script.proofs.reading.index.each_name.Given as goal
 

@@ -1,4 +1,4 @@
-use Rattle.geo_script.specs.TableLines.{column_place}
+use Rattle.geo_script.specs.Tables.{column_place}
 use Rattle.geo_script.proofs.Lists.{AreRead}
 use Rattle.geo_script.proofs.reading.index.each_place.Given as goal
 

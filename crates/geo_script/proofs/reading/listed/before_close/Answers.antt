@@ -1,5 +1,5 @@
 use Rattle.std.proofs.Common.{ap, ◌∙◌, sym}
-use Rattle.geo_script.specs.TableLines.{before_close}
+use Rattle.geo_script.specs.inner.TableLines.{before_close}
 use Rattle.geo_script.proofs.Closing.{closing}
 use Rattle.geo_script.proofs.reading.listed.before_close.Goals as goal
 

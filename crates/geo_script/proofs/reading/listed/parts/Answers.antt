@@ -1,7 +1,7 @@
 use Rattle.std.proofs.Common.{rules, tests}
 use Rattle.std.proofs.lemmas.Iterator.Consumers.{map_from_collect}
 use Rattle.std.proofs.lemmas.Iterator.Splits.{YieldsList-from_slice_split}
-use Rattle.geo_script.specs.Marks.{is_comma}
+use Rattle.geo_script.specs.inner.Marks.{is_comma}
 use Rattle.geo_script.proofs.reading.listed.parts.Goals as goal
 
 pub returns : goal.returns

@@ -1,5 +1,5 @@
 use Rattle.std.proofs.Common.{◌∙◌, sym, arith}
-use Rattle.geo_script.specs.TableLines.{column_of}
+use Rattle.geo_script.specs.inner.TableLines.{column_of}
 use Rattle.geo_script.proofs.Lists.{one_lent, not_lent}
 use Rattle.geo_script.proofs.reading.table.each_column.Goals as goal
 

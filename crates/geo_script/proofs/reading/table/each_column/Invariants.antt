@@ -1,5 +1,5 @@
 use Rattle.std.proofs.Common.{◌≡◌, map, length}
-use Rattle.geo_script.specs.TableLines.{column_of}
+use Rattle.geo_script.specs.inner.TableLines.{column_of}
 use Rattle.geo_script.proofs.Lists.{AreRead}
 use Rattle.geo_script.proofs.reading.table.each_column.Given as goal
 

@@ -1,5 +1,5 @@
 use Rattle.std.proofs.Common.{◌≡◌, ◌++◌, drop}
-use Rattle.geo_script.specs.TableLines.{key_places}
+use Rattle.geo_script.specs.Tables.{key_places}
 use Rattle.geo_script.proofs.reading.table.key_places.Given as goal
 
 abbrev pub invariant-loop-place : goal.invariant-loop-place

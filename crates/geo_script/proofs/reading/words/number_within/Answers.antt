@@ -1,6 +1,6 @@
 use Rattle.std.proofs.Common.{◌≡◌, true, sym, ap, ◌∙◌, arith, inl, inr}
 use Rattle.std.specs.Result.{result_ok}
-use Rattle.geo_script.specs.Words.{is_numeral}
+use Rattle.geo_script.specs.inner.Words.{is_numeral}
 use Rattle.geo_script.proofs.Numerals.{no_numeral, parsed_none, parsed_within, parsed_outside}
 use Rattle.geo_script.proofs.reading.words.number_within.Goals as goal
 

@@ -1,10 +1,9 @@
--- What a line that declares a table or an index makes of the tables above it.
-use Rattle.std.specs.Prelude.{ℕ, ◌+◌, ◌==◌, true, false, nat_le, if◌then◌else◌, is_none, List, [], ◌∷◌, ◌++◌, length, map, codes, position, slice_set, Option, Some, None, option_and_then, ok_or, Ok, Err, ℤ, pos, negsuc}
+-- Inner: how a line that declares a table or an index is read, beside the tables above it.
+use Rattle.std.specs.Prelude.{ℕ, ◌==◌, true, false, nat_le, if◌then◌else◌, is_none, List, [], ◌∷◌, ◌++◌, length, map, codes, Option, Some, None, option_and_then, ok_or, Ok, Err, ℤ, pos, negsuc}
 use Rattle.std.specs.List.{slice_split}
 use Rattle.std.specs.Option.{option_map}
 use Rattle.std.specs.Str.{bytes_eq, is_utf8}
 use Rattle.geo_base.specs.declared.limits.TheConstants.{MAX_TEXT_BYTES, MAX_COLUMNS}
-use Rattle.geo_base.specs.Order.{text_eq}
 use Rattle.geo_schema.specs.declared.column.ColumnDef.{ColumnDef}
 use Rattle.geo_schema.specs.declared.column.Kind.{Kind}
 use Rattle.geo_schema.specs.declared.column.Kind.TheVariants as kind
@@ -18,9 +17,11 @@ use Rattle.geo_script.specs.declared.fault.ScriptKind.{ScriptKind}
 use Rattle.geo_script.specs.declared.fault.ScriptKind.TheVariants.{NotUtf8, BadTable, BadIndex, BadLine}
 use Rattle.geo_script.specs.declared.mark.Mark.{Mark}
 use Rattle.geo_script.specs.declared.mark.Mark.TheVariants as mark
-use Rattle.geo_script.specs.EventLines.{Read}
-use Rattle.geo_script.specs.Marks.{marks_of, is_comma, is_close}
-use Rattle.geo_script.specs.Words.{◌>>=◌, cut}
+use Rattle.geo_script.specs.inner.EventLines.{OfLine}
+use Rattle.geo_script.specs.inner.Marks.{marks_of, is_comma, is_close}
+use Rattle.geo_base.specs.Results.{◌>>=◌}
+use Rattle.geo_script.specs.Tables.{table_with, column_place, add_index}
+use Rattle.geo_script.specs.inner.Words.{cut}
 
 -- ---- columns
 
@@ -78,16 +79,6 @@ each of (item ∷ items) = option_and_then (λ first. option_map (λ more. first
 
 -- ---- tables
 
--- the places of the columns that are of the key, where the first column stands at the place
-abbrev pub key_places : ℕ → List Column → List ℕ
-key_places place [] = []
-key_places place (column ∷ columns) =
-    if column.is_key then place ∷ key_places (place + 1) columns else key_places (place + 1) columns
-
-abbrev pub table_with : List ℕ → List Column → TableDef
-table_with name columns =
-    record { name = name; columns = map (λ column. column.def) columns; key = key_places 0 columns; indexes = [] }
-
 -- the columns, of which there may be at most 32
 unfoldable pub columns_of : List (List Mark) → Option (List Column)
 columns_of items = if nat_le (length items) MAX_COLUMNS then each column_of items else None
@@ -98,11 +89,11 @@ table_of (mark.Name name ∷ marks) = option_map (table_with name) (option_and_t
 table_of _ = None
 
 -- the tables, if they are a schema
-abbrev pub if_schema : ScriptKind → List TableDef → Read (List TableDef)
+abbrev pub if_schema : ScriptKind → List TableDef → OfLine (List TableDef)
 if_schema kind tables = if is_none (schema_fault tables) then Ok tables else Err kind
 
 -- the tables with the one that a text declares
-unfoldable pub with_table : List TableDef → List ℕ → Read (List TableDef)
+unfoldable pub with_table : List TableDef → List ℕ → OfLine (List TableDef)
 with_table tables text = do
   table ← ok_or (option_and_then table_of (marks_of text)) BadTable
   if_schema BadTable (tables ++ table ∷ [])
@@ -123,29 +114,20 @@ unfoldable pub named_list : List Mark → Option (List ℕ × List (List ℕ))
 named_list (mark.Name name ∷ marks) = option_map (λ names. (name, names)) (option_and_then (each name_of) (listed marks))
 named_list _ = None
 
--- the place of the column with a name
-abbrev pub column_place : List ColumnDef → List ℕ → Option ℕ
-column_place columns name = position (λ column. text_eq column.name name) columns
-
 -- A word and what stands behind the next space. An empty word is no word of any line.
-abbrev pub filled : List ℕ → Option (List ℕ × List ℕ) → Read (List ℕ × List ℕ)
+abbrev pub filled : List ℕ → Option (List ℕ × List ℕ) → OfLine (List ℕ × List ℕ)
 filled text None = if length text == 0 then Err BadLine else Err BadIndex
 filled text (Some parts) = if length parts.0 == 0 then Err BadLine else Ok parts
 
-unfoldable pub first_word : List ℕ → Read (List ℕ × List ℕ)
+unfoldable pub first_word : List ℕ → OfLine (List ℕ × List ℕ)
 first_word text = filled text (cut 32 text)
 
 -- an index's name, and what stands behind a space, `on` and a space
-unfoldable pub index_parts : List ℕ → Read (List ℕ × List ℕ)
+unfoldable pub index_parts : List ℕ → OfLine (List ℕ × List ℕ)
 index_parts text = do
   parts ← first_word text
   more ← first_word parts.1
   if bytes_eq more.0 (codes "on") then Ok (parts.0, more.1) else Err BadIndex
-
--- the tables, where the one with this number has an index more
-abbrev pub add_index : List TableDef → ℕ → IndexDef → List TableDef
-add_index tables at index =
-    slice_set tables at (record (table_at tables at) { indexes = (table_at tables at).indexes ++ index ∷ [] })
 
 -- the index with a name, of the columns at these places
 abbrev pub index_with : List ℕ → List ℕ → IndexDef
@@ -165,7 +147,7 @@ unfoldable pub index_of : List TableDef → List ℕ → List ℕ → Option (�
 index_of tables word text = option_and_then (λ name. index_at tables name text) (index_name word)
 
 -- the tables with the index that a text declares
-unfoldable pub with_index : List TableDef → List ℕ → Read (List TableDef)
+unfoldable pub with_index : List TableDef → List ℕ → OfLine (List TableDef)
 with_index tables text = do
   parts ← index_parts text
   found ← ok_or (index_of tables parts.0 parts.1) BadIndex
@@ -174,24 +156,24 @@ with_index tables text = do
 -- ---- whole lines
 
 -- the line, if it has one word alone, which has to begin a longer one
-abbrev pub alone : List ℕ → Read (List TableDef)
+abbrev pub alone : List ℕ → OfLine (List TableDef)
 alone line =
     if bytes_eq line (codes "table") then Err BadTable else (if bytes_eq line (codes "index") then Err BadIndex else Err BadLine)
 
 -- the tables with what a line declares, by its first word and what stands behind the next space
-abbrev pub declared : List TableDef → List ℕ → List ℕ → Read (List TableDef)
+abbrev pub declared : List TableDef → List ℕ → List ℕ → OfLine (List TableDef)
 declared tables word rest =
     if bytes_eq word (codes "table") then with_table tables rest
     else (if bytes_eq word (codes "index") then with_index tables rest else Err BadLine)
 
-abbrev pub by_word : List TableDef → List ℕ → Option (List ℕ × List ℕ) → Read (List TableDef)
+abbrev pub by_word : List TableDef → List ℕ → Option (List ℕ × List ℕ) → OfLine (List TableDef)
 by_word tables line None = alone line
 by_word tables line (Some parts) = declared tables parts.0 parts.1
 
 -- the tables with what a text declares
-unfoldable pub declared_by : List TableDef → List ℕ → Read (List TableDef)
+unfoldable pub declared_by : List TableDef → List ℕ → OfLine (List TableDef)
 declared_by tables text = by_word tables text (cut 32 text)
 
 -- the tables with what a line declares, which has to be a text
-unfoldable pub table_line : List TableDef → List ℕ → Read (List TableDef)
+unfoldable pub table_line : List TableDef → List ℕ → OfLine (List TableDef)
 table_line tables line = if is_utf8 line then declared_by tables line else Err NotUtf8

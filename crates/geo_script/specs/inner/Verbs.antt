@@ -1,4 +1,4 @@
--- Which verb a word is.
+-- Inner: how a first word is looked up among the verbs.
 use Rattle.std.specs.Prelude.{ℕ, List, [], ◌∷◌, map, if◌then◌else◌, Option, Some, None}
 use Rattle.std.specs.Str.{bytes_eq}
 use Rattle.geo_script.specs.declared.verb.Verb.{Verb}

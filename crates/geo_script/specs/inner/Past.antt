@@ -1,4 +1,4 @@
--- What a run has had so far: which regions have a line that crashes them, and which sessions have statements.
+-- Inner: what the reader of a run keeps of the lines so far: which regions have a line that crashes them, and which sessions have statements.
 use Rattle.std.specs.Prelude.{ℕ, Bool, ◌&&◌, nat_eq, if◌then◌else◌, List, [], ◌∷◌, ◌++◌}
 use Rattle.std.specs.List.{list_any}
 use Rattle.geo_script.specs.declared.event.Event.{Event}

@@ -1,4 +1,4 @@
--- The script that the bytes of a text spell, or their first bad line and what is wrong with it.
+-- Inner: how a text is read, line by line, up to the first bad one.
 use Rattle.std.specs.Prelude.{ℕ, ◌+◌, ◌&&◌, nat_le, if◌then◌else◌, List, [], ◌∷◌, length, codes, ok_or, Result, Ok, Err}
 use Rattle.std.specs.Str.{bytes_eq, is_utf8}
 use Rattle.geo_base.specs.declared.limits.TheConstants.{MAX_REGIONS, SCRIPT_BYTES}
@@ -8,13 +8,15 @@ use Rattle.geo_script.specs.declared.fault.ScriptKind.{ScriptKind}
 use Rattle.geo_script.specs.declared.fault.ScriptKind.TheVariants.{TooLong, NotUtf8, BadHeader, MissingBegin}
 use Rattle.geo_script.specs.declared.script.EventAt.{EventAt}
 use Rattle.geo_script.specs.declared.script.Form.{Form}
-use Rattle.geo_script.specs.declared.script.Form.TheVariants.{Play, Run}
 use Rattle.geo_script.specs.declared.script.Script.{Script}
-use Rattle.geo_script.specs.EventLines.{Read, number, event_line}
+use Rattle.geo_script.specs.inner.EventLines.{OfLine, number, event_line}
 use Rattle.geo_script.specs.Lines.{lines_of, spoken_from}
-use Rattle.geo_script.specs.Past.{RunPast, nothing_yet, next_past}
-use Rattle.geo_script.specs.TableLines.{table_line}
-use Rattle.geo_script.specs.Words.{◌>>=◌, cut, is_word}
+use Rattle.geo_script.specs.Spelling.{title}
+use Rattle.geo_script.specs.inner.Past.{RunPast, nothing_yet, next_past}
+use Rattle.geo_script.specs.inner.TableLines.{table_line}
+use Rattle.geo_base.specs.Results.{◌>>=◌}
+use Rattle.geo_script.specs.inner.Words.{cut}
+use Rattle.geo_script.specs.Words.{is_word}
 
 -- a part of a script, or its first bad line
 abbrev pub Checked : Type 0 → Type 0
@@ -24,29 +26,25 @@ abbrev pub bad : {A : Type 0} → ℕ → ScriptKind → Checked A
 bad line kind = Err (record { line = line; kind = kind })
 
 -- what the line with this number is, or that it is bad
-abbrev pub at : {A : Type 0} → ℕ → Read A → Checked A
+abbrev pub at : {A : Type 0} → ℕ → OfLine A → Checked A
 at line (Ok x) = Ok x
 at line (Err kind) = bad line kind
 
 -- ---- the first two lines
 
-abbrev pub title : Form → List ℕ
-title Play = codes "geogauss play 1"
-title Run = codes "geogauss run 1"
-
 -- the line that names the form
-unfoldable pub title_line : Form → List ℕ → Read (Unit {0})
+unfoldable pub title_line : Form → List ℕ → OfLine (Unit {0})
 title_line form line =
     if is_utf8 line then (if bytes_eq line (title form) then Ok tt else Err BadHeader) else Err NotUtf8
 
 -- the word behind `regions` and a space
-unfoldable pub regions_word : List ℕ → Read (List ℕ)
+unfoldable pub regions_word : List ℕ → OfLine (List ℕ)
 regions_word line = do
   parts ← ok_or (cut 32 line) BadHeader
   if bytes_eq parts.0 (codes "regions") && is_word parts.1 then Ok parts.1 else Err BadHeader
 
 -- the line that says how many regions there are
-unfoldable pub regions_line : List ℕ → Read ℕ
+unfoldable pub regions_line : List ℕ → OfLine ℕ
 regions_line line = if is_utf8 line then (regions_word line >>= number 1 MAX_REGIONS) else Err NotUtf8
 
 -- ---- the lines behind them
