@@ -1,15 +1,16 @@
 -- What an answer says of the text.
-use Rattle.std.proofs.Common.{◌≡◌, ℕ, List, Result, Ok, Err, refl}
+use Rattle.std.proofs.Common.{◌≡◌, ◌⊎◌, inl, inr, ℕ, List, Result, Ok, Err, refl}
 use Rattle.std.specs.Result.{IfOk, IfErr, MatchResult}
 use Rattle.geo_script.specs.declared.fault.ScriptRefusal.{ScriptRefusal}
 use Rattle.geo_script.specs.declared.fault.ScriptRefusal.TheVariants as refusal
+use Rattle.geo_script.specs.declared.fault.ScriptFault.{ScriptFault}
 use Rattle.geo_script.specs.declared.script.Form.{Form}
 use Rattle.geo_script.specs.declared.script.Script.{Script}
 use Rattle.geo_script.specs.inner.Answers.{Answers}
-use Rattle.geo_script.specs.Faults.{IsRefusal}
+use Rattle.geo_script.specs.Faults.{IsFault, IsRefusal}
 use Rattle.geo_script.specs.inner.Scripts.{script_of}
 use Rattle.geo_script.specs.Spelling.{IsScriptText}
-use Rattle.geo_script.proofs.FirstBad.{fault_is}
+use Rattle.geo_script.proofs.FirstBad.{fault_is, fault_read}
 use Rattle.geo_script.proofs.ScriptLines.{script_is, script_read}
 
 module _ (form : Form) (bytes : List ℕ) where
@@ -27,3 +28,9 @@ module _ (form : Form) (bytes : List ℕ) where
   faulty (Ok found) is = tt
   faulty (Err refusal.NoMemory) is = tt
   faulty (Err (refusal.Script fault)) is = fault_is form bytes fault is
+
+  pub only_faults : (r : Result Script ScriptRefusal) → Answers (λ script. script) r (script_of form bytes) → (fault : ScriptFault) → IsFault form bytes fault →
+      MatchResult r (λ found. ⊥) (λ e. (e ≡ refusal.NoMemory) ⊎ (e ≡ refusal.Script fault))
+  only_faults (Ok found) is fault faulty = let there : script_of form bytes ≡ Err fault = fault_read form bytes fault faulty in cc
+  only_faults (Err refusal.NoMemory) is fault faulty = inl refl
+  only_faults (Err (refusal.Script other)) is fault faulty = let there : script_of form bytes ≡ Err fault = fault_read form bytes fault faulty in inr cc

@@ -21,6 +21,7 @@ use Rattle.geo_script.specs.Spelling.{title, AreDeclared, AreEventLines, IsLawfu
 use Rattle.geo_base.specs.Results.{◌>>=◌}
 use Rattle.geo_script.proofs.PlayLines.{IsRegions}
 use Rattle.geo_script.proofs.Runs.{lawful_from, admitted_from}
+use Rattle.geo_script.proofs.SoFar.{so_far}
 use Rattle.geo_script.proofs.WrongDeclarations.{declaration_wrong, declaration_stops}
 use Rattle.geo_script.proofs.WrongHeads.{title_wrong, title_stops, count_wrong, count_stops}
 use Rattle.geo_script.proofs.WrongLines.{line_wrong, line_stops}
@@ -137,7 +138,7 @@ wrong_event form first second body line more kind title wrong =
     (rw (head_read after wrong.number [] wrong.tables wrong.heads (wrong.tails ++ later) wrong.declared)
     (rw (events_wrong form wrong.regions lawful nothing_yet wrong.tails wrong.events (3 + length body) line (spoken_from (3 + length body + 1) more) kind
     wrong.typed (admitted_from form wrong.events wrong.lawful)
-    (line_stops form wrong.regions lawful (past_behind form nothing_yet wrong.events) line kind wrong.wrong)) refl)))))
+    (line_stops form wrong.regions lawful (so_far form wrong.events wrong.lawful) line kind wrong.wrong)) refl)))))
 
 wrong_title : (form : Form) (line : List ℕ) (more : List (List ℕ)) (kind : ScriptKind) → title_line form line ≡ Err kind → script_of_lines form (line ∷ more) ≡ bad 1 kind
 unfolding script_of_lines
@@ -242,7 +243,7 @@ in_events form first second body fault regions tables tails title count lawful h
       typed = stops.are.typed;
       lawful = may;
       speaks = here.speaks;
-      wrong = line_wrong form regions lawful (past_behind form nothing_yet stops.events) stops.here.1 fault.kind stops.wrong;
+      wrong = line_wrong form regions lawful (so_far form stops.events may) stops.here.1 fault.kind stops.wrong;
     })
 
 -- the script of a head and events

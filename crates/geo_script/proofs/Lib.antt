@@ -18,6 +18,7 @@ pub mod MarkLists
 pub mod NameTokens
 pub mod Declarations
 pub mod Runs
+pub mod SoFar
 pub mod ScriptLines
 pub mod SpokenLines
 pub mod Stops
@@ -28,4 +29,5 @@ pub mod EventWords
 pub mod WrongEvents
 pub mod WrongLines
 pub mod FirstBad
+pub mod OneAnswer
 pub mod Answered

@@ -27,7 +27,7 @@ AreAdmitted form past (first ∷ events) = IsAdmitted form past first.event × A
 -- ---- crashes
 
 -- a number that stands behind others which all differ is none of them
-behind_others : (xs ys : List ℕ) (y : ℕ) → IsDistinct nat_eq (xs ++ y ∷ ys) → list_any (nat_eq y) xs ≡ false
+pub behind_others : (xs ys : List ℕ) (y : ℕ) → IsDistinct nat_eq (xs ++ y ∷ ys) → list_any (nat_eq y) xs ≡ false
 behind_others [] ys y distinct = refl
 behind_others (x ∷ xs) ys y distinct =
     let apart = IsDistinct-head nat_eq x (xs ++ y ∷ ys) distinct in

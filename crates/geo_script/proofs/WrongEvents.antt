@@ -9,6 +9,7 @@ use Rattle.geo_script.specs.declared.event.Event.TheVariants as event
 use Rattle.geo_script.specs.declared.fault.ScriptKind.{ScriptKind}
 use Rattle.geo_script.specs.declared.fault.ScriptKind.TheVariants.{BadLine, BadNumber, LongStatement, TooManySessions}
 use Rattle.geo_script.specs.declared.limits.TheConstants.{STATEMENT_BYTES, SESSIONS_PER_RUN, SEATS_PER_ROUND, LAST_ASKED_EPOCH, LAST_CRASH_EPOCH, LAST_PACKET}
+use Rattle.geo_script.specs.declared.script.EventAt.{EventAt}
 use Rattle.geo_script.specs.declared.script.Form.{Form}
 use Rattle.geo_script.specs.declared.script.Form.TheVariants.{Play, Run}
 use Rattle.geo_script.specs.declared.verb.Verb.{Verb}
@@ -26,6 +27,7 @@ use Rattle.geo_script.proofs.EventsRead.{after_read}
 use Rattle.geo_script.proofs.EventsSpelled.{sql_is}
 use Rattle.geo_script.proofs.PlayLines.{IsRegions, Asks, place_is, region_is, sql_asks}
 use Rattle.geo_script.proofs.Failures.{step_err, or_err, option_err, if_err, when_err, unless_err, no_option}
+use Rattle.geo_script.proofs.SoFar.{SoFar}
 use Rattle.geo_script.proofs.Inversions.{step_ok, or_ok, when_ok}
 
 -- ---- numbers
@@ -145,23 +147,23 @@ crash_fails regions rest kind is =
 -- ---- statements
 
 -- what may be wrong with a line that has the words of an event
-abbrev pub Behind : Form → ℕ → RunPast → List ℕ → ScriptKind → Type 0
-Behind form regions past line kind =
+abbrev pub Behind : Form → ℕ → List EventAt → List ℕ → ScriptKind → Type 0
+Behind form regions events line kind =
     (BadNumber ≡ kind)
     ⊎ (((LongStatement ≡ kind) × IsTooLong regions line)
-    ⊎ (((TooManySessions ≡ kind) × HasNoRoom form regions past line) ⊎ ((BadLine ≡ kind) × CrashesAgain form regions past line)))
+    ⊎ (((TooManySessions ≡ kind) × HasNoRoom form regions events line) ⊎ ((BadLine ≡ kind) × CrashesAgain form regions events line)))
 
-abbrev pub LineFails : Form → ℕ → RunPast → Type 0 → List ℕ → ScriptKind → Type 0
-LineFails form regions past Words line kind = ((BadLine ≡ kind) × (Words → ⊥)) ⊎ (Words × Behind form regions past line kind)
+abbrev pub LineFails : Form → ℕ → List EventAt → Type 0 → List ℕ → ScriptKind → Type 0
+LineFails form regions events Words line kind = ((BadLine ≡ kind) × (Words → ⊥)) ⊎ (Words × Behind form regions events line kind)
 
-plain : (form : Form) (regions : ℕ) (past : RunPast) (Words : Type 0) (line : List ℕ) (kind : ScriptKind) → WordsFail Words kind → LineFails form regions past Words line kind
-plain form regions past Words line kind (inl none) = inl none
-plain form regions past Words line kind (inr (words, e)) = inr (words, inl e)
+plain : (form : Form) (regions : ℕ) (events : List EventAt) (Words : Type 0) (line : List ℕ) (kind : ScriptKind) → WordsFail Words kind → LineFails form regions events Words line kind
+plain form regions events Words line kind (inl none) = inl none
+plain form regions events Words line kind (inr (words, e)) = inr (words, inl e)
 
-sql_fails : (form : Form) (regions : ℕ) → IsRegions regions → (past : RunPast) (rest : List ℕ) (kind : ScriptKind) → sql regions rest ≡ Err kind →
-    LineFails form regions past (HasStatement rest) (codes "sql " ++ rest) kind
+sql_fails : (form : Form) (regions : ℕ) → IsRegions regions → (events : List EventAt) (rest : List ℕ) (kind : ScriptKind) → sql regions rest ≡ Err kind →
+    LineFails form regions events (HasStatement rest) (codes "sql " ++ rest) kind
 unfolding sql
-sql_fails form regions lawful past rest kind is =
+sql_fails form regions lawful events rest kind is =
     elim (option_err (statement_parts rest) BadLine _ kind is) [
       | inl none ↦ inl (none.1, λ has. no_option (statement_parts rest) (has.place, has.text) none.0 (statement_read rest has))
       | inr parts ↦
@@ -217,25 +219,25 @@ statement_ok regions rest found is =
     let parts = step_ok (ok_or (statement_parts rest) BadLine) _ found is in
     statement_is rest parts.0 (or_ok (statement_parts rest) BadLine parts.0 parts.1)
 
-one_more : (regions : ℕ) (past : RunPast) (line : List ℕ) (at session : ℕ) (text : List ℕ) (kind : ScriptKind) → Asks Run regions line (event.Sql at session text) → IsLeftOut past at session kind →
-    IsOneSessionMore regions past line
-one_more regions past line at session text kind asks out =
-    record { region = at; session = session; text = text; typed = by asks.typed; within = asks.within; other = out.other; full = out.full }
+one_more : (regions : ℕ) (far : SoFar Run) (line : List ℕ) (at session : ℕ) (text : List ℕ) (kind : ScriptKind) → Asks Run regions line (event.Sql at session text) → IsLeftOut far.past at session kind →
+    IsOneSessionMore regions far.events line
+one_more regions far line at session text kind asks out =
+    record { region = at; session = session; text = text; typed = by asks.typed; within = asks.within; more = far.says.left at session out.other out.full }
   where
     by : Types line (event.Sql at session text) → line ≡ event_text (event.Sql at session text)
     by (inl whole) = whole
     by (inr short) = absurd short
 
-run_sql_fails : (regions : ℕ) → IsRegions regions → (past : RunPast) (rest : List ℕ) (kind : ScriptKind) → (sql regions rest >>= if_admitted past) ≡ Err kind →
-    LineFails Run regions past (HasStatement rest) (codes "sql " ++ rest) kind
-run_sql_fails regions lawful past rest kind is =
-    elim (step_err (sql regions rest) (if_admitted past) kind is) [
-      | inl bad ↦ sql_fails Run regions lawful past rest kind bad
+run_sql_fails : (regions : ℕ) → IsRegions regions → (far : SoFar Run) (rest : List ℕ) (kind : ScriptKind) → (sql regions rest >>= if_admitted far.past) ≡ Err kind →
+    LineFails Run regions far.events (HasStatement rest) (codes "sql " ++ rest) kind
+run_sql_fails regions lawful far rest kind is =
+    elim (step_err (sql regions rest) (if_admitted far.past) kind is) [
+      | inl bad ↦ sql_fails Run regions lawful far.events rest kind bad
       | inr found ↦
           let sql' = sql_is regions rest found.0 found.1 in
-          let out = left_out past sql'.at sql'.session sql'.text kind (ap (if_admitted past) sql'.is ∙ found.2) in
+          let out = left_out far.past sql'.at sql'.session sql'.text kind (ap (if_admitted far.past) sql'.is ∙ found.2) in
           let asks = subst (Asks Run regions (codes "sql " ++ rest)) (sym sql'.is) (sql_asks Run regions lawful rest found.0 found.1) in
-          inr (statement_ok regions rest found.0 found.1, inr (inr (inl (out.is, one_more regions past (codes "sql " ++ rest) sql'.at sql'.session sql'.text kind asks out))))
+          inr (statement_ok regions rest found.0 found.1, inr (inr (inl (out.is, one_more regions far (codes "sql " ++ rest) sql'.at sql'.session sql'.text kind asks out))))
     ]
 
 -- a region is misspelt, or crashes again
@@ -249,24 +251,24 @@ fresh_fails regions past word kind is = by (region regions word) refl is
     by (Ok at) read found = elim (unless_err (has_crash past at) _ BadLine kind found) [ inl again ↦ inr (at, read, again.0, again.1) | inr fresh ↦ cc (fresh.1) ]
     by (Err other) read found = let same : other ≡ kind = cc in inl (number_bad 0 (regions - 1) word other read ∙ same)
 
-crash_after_fails : (regions : ℕ) → IsRegions regions → (past : RunPast) (rest : List ℕ) (kind : ScriptKind) → crash_after regions past rest ≡ Err kind →
-    LineFails Run regions past (HasAfter rest) (codes "crash " ++ rest) kind
+crash_after_fails : (regions : ℕ) → IsRegions regions → (far : SoFar Run) (rest : List ℕ) (kind : ScriptKind) → crash_after regions far.past rest ≡ Err kind →
+    LineFails Run regions far.events (HasAfter rest) (codes "crash " ++ rest) kind
 unfolding crash_after
-crash_after_fails regions lawful past rest kind is =
+crash_after_fails regions lawful far rest kind is =
     elim (option_err (after_words rest) BadLine _ kind is) [
       | inl none ↦ inl (none.1, λ has. after_none rest has none.0)
       | inr words ↦
           let has = after_is rest words.0 words.1 in
           inr (
             has,
-            elim (step_err (fresh_region past (region regions words.0.0)) _ kind words.2) [
-              | inl bad ↦ by has words.0 words.1 (fresh_fails regions past words.0.0 kind bad)
+            elim (step_err (fresh_region far.past (region regions words.0.0)) _ kind words.2) [
+              | inl bad ↦ by has words.0 words.1 (fresh_fails regions far.past words.0.0 kind bad)
               | inr at ↦ elim (number_err 1 LAST_CRASH_EPOCH words.0.1 _ kind at.2) [ inl e ↦ inl e | inr epoch ↦ cc (epoch.1) ]
             ],
           )
     ]
   where
-    by : (has : HasAfter rest) (words : List ℕ × List ℕ) → after_words rest ≡ Some words → FreshFails regions past words.0 kind → Behind Run regions past (codes "crash " ++ rest) kind
+    by : (has : HasAfter rest) (words : List ℕ × List ℕ) → after_words rest ≡ Some words → FreshFails regions far.past words.0 kind → Behind Run regions far.events (codes "crash " ++ rest) kind
     by has words found (inl e) = inl e
     by has words found (inr (at, read, crashed, e)) =
         let same : words ≡ (has.region, has.epoch) = cc (ap after_words has.whole, after_read has.region has.epoch has.one has.other) in
@@ -280,35 +282,35 @@ crash_after_fails regions lawful past rest kind is =
             whole = ap (λ w. codes "crash " ++ w) (has.whole ∙ ap (λ w. w ++ (codes " after " ++ has.epoch)) (sym first ∙ spelled.spelled));
             word = has.other;
             within = spelled.within;
-            crashed = crashed;
+            crashed = far.says.crashed at crashed;
           },
         )))
 
 -- ---- whole lines
 
-pub form_fails : (form : Form) (regions : ℕ) → IsRegions regions → (past : RunPast) (verb : Verb) (rest : List ℕ) (kind : ScriptKind) → form_event form regions past verb rest ≡ Err kind →
-    LineFails form regions past (HasWordsBehind form verb rest) (verb_text verb ++ 32 ∷ rest) kind
+pub form_fails : (form : Form) (regions : ℕ) → IsRegions regions → (far : SoFar form) (verb : Verb) (rest : List ℕ) (kind : ScriptKind) → form_event form regions far.past verb rest ≡ Err kind →
+    LineFails form regions far.events (HasWordsBehind form verb rest) (verb_text verb ++ 32 ∷ rest) kind
 unfolding form_event play_event run_event
-form_fails Play regions lawful past verb.Sql rest kind is = sql_fails Play regions lawful past rest kind is
-form_fails Play regions lawful past verb.Outcome rest kind is = plain Play regions past (IsWord rest) (codes "outcome " ++ rest) kind (outcome_fails regions rest kind is)
-form_fails Play regions lawful past verb.Seal rest kind is = plain Play regions past (IsWord rest) (codes "seal " ++ rest) kind (only_fails regions rest event.Seal kind is)
-form_fails Play regions lawful past verb.Deliver rest kind is = plain Play regions past (IsWord rest ⊎ HasTwoWords rest) (codes "deliver " ++ rest) kind (deliver_fails rest kind is)
-form_fails Play regions lawful past verb.Fetch rest kind is = plain Play regions past (HasThreeWords rest) (codes "fetch " ++ rest) kind (fetch_fails regions rest kind is)
-form_fails Play regions lawful past verb.Work rest kind is = plain Play regions past (HasTwoWords rest) (codes "work " ++ rest) kind (work_fails regions rest kind is)
-form_fails Play regions lawful past verb.Publish rest kind is = plain Play regions past (IsWord rest) (codes "publish " ++ rest) kind (only_fails regions rest event.Publish kind is)
-form_fails Play regions lawful past verb.Show rest kind is = plain Play regions past (IsWord rest) (codes "show " ++ rest) kind (only_fails regions rest event.Show kind is)
-form_fails Play regions lawful past verb.Crash rest kind is = plain Play regions past (IsWord rest ⊎ HasSealing rest) (codes "crash " ++ rest) kind (crash_fails regions rest kind is)
-form_fails Play regions lawful past verb.Restart rest kind is = plain Play regions past (IsWord rest) (codes "restart " ++ rest) kind (only_fails regions rest event.Restart kind is)
-form_fails Run regions lawful past verb.Sql rest kind is = run_sql_fails regions lawful past rest kind is
-form_fails Run regions lawful past verb.Crash rest kind is = crash_after_fails regions lawful past rest kind is
-form_fails Run regions lawful past verb.Outcome rest kind is = inl (cc, λ none. none)
-form_fails Run regions lawful past verb.Seal rest kind is = inl (cc, λ none. none)
-form_fails Run regions lawful past verb.Deliver rest kind is = inl (cc, λ none. none)
-form_fails Run regions lawful past verb.Fetch rest kind is = inl (cc, λ none. none)
-form_fails Run regions lawful past verb.Work rest kind is = inl (cc, λ none. none)
-form_fails Run regions lawful past verb.Publish rest kind is = inl (cc, λ none. none)
-form_fails Run regions lawful past verb.Show rest kind is = inl (cc, λ none. none)
-form_fails Run regions lawful past verb.Restart rest kind is = inl (cc, λ none. none)
+form_fails Play regions lawful far verb.Sql rest kind is = sql_fails Play regions lawful far.events rest kind is
+form_fails Play regions lawful far verb.Outcome rest kind is = plain Play regions far.events (IsWord rest) (codes "outcome " ++ rest) kind (outcome_fails regions rest kind is)
+form_fails Play regions lawful far verb.Seal rest kind is = plain Play regions far.events (IsWord rest) (codes "seal " ++ rest) kind (only_fails regions rest event.Seal kind is)
+form_fails Play regions lawful far verb.Deliver rest kind is = plain Play regions far.events (IsWord rest ⊎ HasTwoWords rest) (codes "deliver " ++ rest) kind (deliver_fails rest kind is)
+form_fails Play regions lawful far verb.Fetch rest kind is = plain Play regions far.events (HasThreeWords rest) (codes "fetch " ++ rest) kind (fetch_fails regions rest kind is)
+form_fails Play regions lawful far verb.Work rest kind is = plain Play regions far.events (HasTwoWords rest) (codes "work " ++ rest) kind (work_fails regions rest kind is)
+form_fails Play regions lawful far verb.Publish rest kind is = plain Play regions far.events (IsWord rest) (codes "publish " ++ rest) kind (only_fails regions rest event.Publish kind is)
+form_fails Play regions lawful far verb.Show rest kind is = plain Play regions far.events (IsWord rest) (codes "show " ++ rest) kind (only_fails regions rest event.Show kind is)
+form_fails Play regions lawful far verb.Crash rest kind is = plain Play regions far.events (IsWord rest ⊎ HasSealing rest) (codes "crash " ++ rest) kind (crash_fails regions rest kind is)
+form_fails Play regions lawful far verb.Restart rest kind is = plain Play regions far.events (IsWord rest) (codes "restart " ++ rest) kind (only_fails regions rest event.Restart kind is)
+form_fails Run regions lawful far verb.Sql rest kind is = run_sql_fails regions lawful far rest kind is
+form_fails Run regions lawful far verb.Crash rest kind is = crash_after_fails regions lawful far rest kind is
+form_fails Run regions lawful far verb.Outcome rest kind is = inl (cc, λ none. none)
+form_fails Run regions lawful far verb.Seal rest kind is = inl (cc, λ none. none)
+form_fails Run regions lawful far verb.Deliver rest kind is = inl (cc, λ none. none)
+form_fails Run regions lawful far verb.Fetch rest kind is = inl (cc, λ none. none)
+form_fails Run regions lawful far verb.Work rest kind is = inl (cc, λ none. none)
+form_fails Run regions lawful far verb.Publish rest kind is = inl (cc, λ none. none)
+form_fails Run regions lawful far verb.Show rest kind is = inl (cc, λ none. none)
+form_fails Run regions lawful far verb.Restart rest kind is = inl (cc, λ none. none)
 
 -- ---- what is read has its words
 

@@ -12,7 +12,6 @@ use Rattle.geo_script.specs.declared.script.EventAt.{EventAt}
 use Rattle.geo_script.specs.declared.script.Form.{Form}
 use Rattle.geo_script.specs.declared.script.Script.{Script}
 use Rattle.geo_script.specs.Lines.{lines_of, is_silent, spoken_from}
-use Rattle.geo_script.specs.inner.Past.{nothing_yet, past_behind}
 use Rattle.geo_script.specs.Spelling.{AreDeclared, AreEventLines, IsLawful, IsScript}
 use Rattle.geo_script.specs.Wrongs.{IsWrongTitle, IsWrongCount, IsWrongDeclaration, IsWrongLine}
 
@@ -46,7 +45,7 @@ pub record IsWrongEvent (form : Form) (second : List ℕ) (body : List (List ℕ
   pub typed : AreEventLines form regions tails events
   pub lawful : IsLawful form events
   pub speaks : is_silent line ≡ false
-  pub wrong : IsWrongLine form regions (past_behind form nothing_yet events) line kind
+  pub wrong : IsWrongLine form regions events line kind
 
 -- behind these lines, which begin a script, the line has this kind of fault
 abbrev pub IsWrong : Form → List (List ℕ) → List ℕ → ScriptKind → Type 0

@@ -118,16 +118,16 @@ abbrev pub along : {A : Type 0} → (Event → List A) → List EventAt → List
 along of [] = []
 along of (first ∷ events) = of first.event ++ along of events
 
--- there are at most 64 sessions
-pub record HasFewSessions (events : List EventAt) : Type 0 where
+-- all of these are among at most 64 sessions
+pub record AreFewSessions (asked : List (ℕ × ℕ)) : Type 0 where
   pub sessions : List (ℕ × ℕ)
   pub few : length sessions ≤ SESSIONS_PER_RUN
-  pub all : All (Contains sessions) (along session_of events)
+  pub all : All (Contains sessions) asked
 
 -- a run crashes each region once at most, and has at most 64 sessions over all
 abbrev pub IsLawful : Form → List EventAt → Type 0
 IsLawful Play events = Unit {0}
-IsLawful Run events = IsDistinct nat_eq (along crashed_of events) × HasFewSessions events
+IsLawful Run events = IsDistinct nat_eq (along crashed_of events) × AreFewSessions (along session_of events)
 
 -- ---- tables and indexes
 

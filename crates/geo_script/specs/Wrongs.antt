@@ -1,5 +1,5 @@
 -- What is wrong with a line that is none of a script, where several things are: the first of them in the order in which they stand here.
-use Rattle.std.specs.Prelude.{◌≡◌, ◌≢◌, ◌⊎◌, ℕ, ◌<◌, ◌≤◌, true, false, List, ◌++◌, length, codes, IsUtf8}
+use Rattle.std.specs.Prelude.{◌≡◌, ◌≢◌, ◌⊎◌, ℕ, ◌<◌, ◌≤◌, List, [], ◌∷◌, ◌++◌, length, codes, IsUtf8, Contains}
 use Rattle.std.specs.Fmt.{decimal}
 use Rattle.geo_base.specs.declared.limits.TheConstants.{MAX_REGIONS, SESSIONS_PER_REGION}
 use Rattle.geo_schema.specs.declared.table.TableDef.{TableDef}
@@ -9,12 +9,12 @@ use Rattle.geo_script.specs.declared.event.Event.TheVariants as event
 use Rattle.geo_script.specs.declared.fault.ScriptKind.{ScriptKind}
 use Rattle.geo_script.specs.declared.fault.ScriptKind.TheVariants.{NotUtf8, BadHeader, BadTable, BadIndex, BadLine, BadNumber, LongStatement, TooManySessions}
 use Rattle.geo_script.specs.declared.limits.TheConstants.{STATEMENT_BYTES, SESSIONS_PER_RUN}
+use Rattle.geo_script.specs.declared.script.EventAt.{EventAt}
 use Rattle.geo_script.specs.declared.script.Form.{Form}
 use Rattle.geo_script.specs.declared.script.Form.TheVariants.{Play, Run}
 use Rattle.geo_script.specs.Words.{IsWord}
 use Rattle.geo_script.specs.EventWords.{HasWords}
-use Rattle.geo_script.specs.inner.Past.{RunPast, has_crash, has_session}
-use Rattle.geo_script.specs.Spelling.{title, Types, IsOfForm, IsWithin, event_text, Declares}
+use Rattle.geo_script.specs.Spelling.{title, Types, IsOfForm, IsWithin, event_text, along, session_of, crashed_of, AreFewSessions, Declares}
 
 -- ---- the first two lines
 
@@ -81,19 +81,19 @@ pub record SpellsNumbers (form : Form) (regions : ℕ) (line : List ℕ) : Type 
   pub of_form : IsOfForm form asked
   pub right : HasRightNumbers regions asked
 
--- the line crashes a region, after whatever epoch, that a line before it crashes
-pub record CrashesTwice (regions : ℕ) (past : RunPast) (line : List ℕ) : Type 0 where
+-- the line crashes a region, after whatever epoch, that one of the events crashes
+pub record CrashesTwice (regions : ℕ) (events : List EventAt) (line : List ℕ) : Type 0 where
   pub region : ℕ
   pub epoch : List ℕ
   pub whole : line ≡ codes "crash " ++ (decimal region ++ (codes " after " ++ epoch))
   pub word : IsWord epoch
   pub within : region < regions
-  pub crashed : has_crash past region ≡ true
+  pub crashed : Contains (along crashed_of events) region
 
 -- only in runs a region may not crash again
-abbrev pub CrashesAgain : Form → ℕ → RunPast → List ℕ → Type 0
-CrashesAgain Play regions past line = ⊥
-CrashesAgain Run regions past line = CrashesTwice regions past line
+abbrev pub CrashesAgain : Form → ℕ → List EventAt → List ℕ → Type 0
+CrashesAgain Play regions events line = ⊥
+CrashesAgain Run regions events line = CrashesTwice regions events line
 
 -- a session runs a statement that is too long
 pub record IsTooLong (regions : ℕ) (line : List ℕ) : Type 0 where
@@ -105,27 +105,26 @@ pub record IsTooLong (regions : ℕ) (line : List ℕ) : Type 0 where
   pub known : session < SESSIONS_PER_REGION
   pub long : STATEMENT_BYTES < length text
 
--- the line is of one session more than there may be
-pub record IsOneSessionMore (regions : ℕ) (past : RunPast) (line : List ℕ) : Type 0 where
+-- the line is a statement of a session which, beside those of the events, is one more than there may be
+pub record IsOneSessionMore (regions : ℕ) (events : List EventAt) (line : List ℕ) : Type 0 where
   pub region : ℕ
   pub session : ℕ
   pub text : List ℕ
   pub typed : line ≡ event_text (event.Sql region session text)
   pub within : IsWithin regions (event.Sql region session text)
-  pub other : has_session past region session ≡ false
-  pub full : SESSIONS_PER_RUN ≤ length past.sessions
+  pub more : AreFewSessions (along session_of events ++ (region, session) ∷ []) → ⊥
 
 -- only in runs the sessions are counted over all
-abbrev pub HasNoRoom : Form → ℕ → RunPast → List ℕ → Type 0
-HasNoRoom Play regions past line = ⊥
-HasNoRoom Run regions past line = IsOneSessionMore regions past line
+abbrev pub HasNoRoom : Form → ℕ → List EventAt → List ℕ → Type 0
+HasNoRoom Play regions events line = ⊥
+HasNoRoom Run regions events line = IsOneSessionMore regions events line
 
--- what is wrong with a line behind `begin`, and behind lines of events that leave this past
-abbrev pub IsWrongLine : Form → ℕ → RunPast → List ℕ → ScriptKind → Type 0
-IsWrongLine form regions past line NotUtf8 = IsUtf8 line → ⊥
-IsWrongLine form regions past line BadLine = IsUtf8 line × ((HasWords form line → ⊥) ⊎ CrashesAgain form regions past line)
-IsWrongLine form regions past line BadNumber =
-    IsUtf8 line × HasWords form line × (CrashesAgain form regions past line → ⊥) × (SpellsNumbers form regions line → ⊥)
-IsWrongLine form regions past line LongStatement = IsUtf8 line × IsTooLong regions line
-IsWrongLine form regions past line TooManySessions = IsUtf8 line × HasNoRoom form regions past line
-IsWrongLine form regions past line _ = ⊥
+-- what is wrong with a line behind `begin` and the lines of these events
+abbrev pub IsWrongLine : Form → ℕ → List EventAt → List ℕ → ScriptKind → Type 0
+IsWrongLine form regions events line NotUtf8 = IsUtf8 line → ⊥
+IsWrongLine form regions events line BadLine = IsUtf8 line × ((HasWords form line → ⊥) ⊎ CrashesAgain form regions events line)
+IsWrongLine form regions events line BadNumber =
+    IsUtf8 line × HasWords form line × (CrashesAgain form regions events line → ⊥) × (SpellsNumbers form regions line → ⊥)
+IsWrongLine form regions events line LongStatement = IsUtf8 line × IsTooLong regions line
+IsWrongLine form regions events line TooManySessions = IsUtf8 line × HasNoRoom form regions events line
+IsWrongLine form regions events line _ = ⊥

@@ -84,7 +84,7 @@ impl From<ScriptFault> for ScriptRefusal {
 }
 
 /// The line with this number is the first bad one.
-pub fn bad(line: u32, kind: ScriptKind) -> ScriptRefusal
+pub(crate) fn bad(line: u32, kind: ScriptKind) -> ScriptRefusal
     ensures { result ≡ refusal.Script (record { line = line; kind = kind }) }
 {
     ScriptRefusal::Script(ScriptFault { line, kind })

@@ -10,7 +10,7 @@ use std::alloc::Global;
 
 /// What a token is in a line that declares a table or an index.
 #[derive(Debug, Drop)]
-pub enum Mark {
+pub(crate) enum Mark {
     /// A name.
     Name(Txt),
     /// A number, as in `TEXT(20)`.
@@ -86,7 +86,7 @@ fn each_mark(alloc: Global, tokens: Vec<Token>) -> Result<Vec<Mark>, NoMemory>
 
 /// What the tokens of the text are, if it is cut into tokens.
 #[tactic(auto, unfolding(crate::specs::inner::Marks::marks_of))]
-pub fn marks_of(alloc: Global, text: &str) -> Result<Option<Vec<Mark>>, NoMemory>
+pub(crate) fn marks_of(alloc: Global, text: &str) -> Result<Option<Vec<Mark>>, NoMemory>
     requires { length text.now < 2 ^ 32 }
     ensures { IfOk result (λ found. option_map (λ marks. marks.items) found ≡ inner.marks_of text.now) }
 {
@@ -98,14 +98,14 @@ pub fn marks_of(alloc: Global, text: &str) -> Result<Option<Vec<Mark>>, NoMemory
 }
 
 /// The mark is a comma.
-pub fn is_comma(mark: &Mark) -> bool
+pub(crate) fn is_comma(mark: &Mark) -> bool
     ensures { result ≡ inner.is_comma mark.now }
 {
     matches!(mark, Mark::Comma)
 }
 
 /// The mark is a closing parenthesis.
-pub fn is_close(mark: &Mark) -> bool
+pub(crate) fn is_close(mark: &Mark) -> bool
     ensures { result ≡ inner.is_close mark.now }
 {
     matches!(mark, Mark::Close)

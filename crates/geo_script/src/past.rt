@@ -9,7 +9,7 @@ use std::marker::Model;
 
 /// What a run has had so far: the regions with a line that crashes them, and the sessions with statements.
 #[derive(Debug, Drop)]
-pub struct Past {
+pub(crate) struct Past {
     crashed: Vec<RegionNo>,
     sessions: Vec<(RegionNo, u8)>,
 }
@@ -24,7 +24,7 @@ impl Model for Past {
 
 impl Past {
     /// Nothing yet.
-    pub fn new(alloc: Global) -> Past
+    pub(crate) fn new(alloc: Global) -> Past
         ensures { result ≡ spec.nothing_yet }
     {
         Past {
@@ -34,14 +34,14 @@ impl Past {
     }
 
     /// Whether the region has a line that crashes it. Looks at each one that has.
-    pub fn has_crash(&self, region: RegionNo) -> bool
+    pub(crate) fn has_crash(&self, region: RegionNo) -> bool
         ensures { result ≡ spec.has_crash self.now region }
     {
         self.crashed.iter().any(|crashed| region == *crashed)
     }
 
     /// Whether the session has a statement. Looks at each one that has.
-    pub fn has_session(&self, region: RegionNo, session: u8) -> bool
+    pub(crate) fn has_session(&self, region: RegionNo, session: u8) -> bool
         ensures { result ≡ spec.has_session self.now region session }
     {
         self.sessions
@@ -50,14 +50,14 @@ impl Past {
     }
 
     /// How many sessions have statements.
-    pub fn sessions(&self) -> usize
+    pub(crate) fn sessions(&self) -> usize
         ensures { result ≡ length self.now.sessions }
     {
         self.sessions.len()
     }
 
     /// One event more. Of a play nothing has to be known.
-    pub fn add(&mut self, form: Form, event: &Event) -> Result<(), NoMemory>
+    pub(crate) fn add(&mut self, form: Form, event: &Event) -> Result<(), NoMemory>
         ensures { OnOk result (self.new ≡ spec.next_past form self.old event.now) }
     {
         match form {

@@ -1,10 +1,11 @@
 //! Reading the text of a script.
-ghost use Rattle.std.specs.Prelude.{◌≡◌, ◌≤◌, length, None, IfOk, IfErr, MatchResult};
+ghost use Rattle.std.specs.Prelude.{◌≡◌, ◌⊎◌, ◌≤◌, length, None, IfOk, IfErr, MatchResult};
 ghost use Rattle.geo_base.specs.declared.limits.TheConstants.{SCRIPT_BYTES};
 ghost use Rattle.geo_schema.specs.Schemas.{IsSchema};
 ghost use Rattle.geo_script.specs.declared.script.Script.{Script};
 ghost use Rattle.geo_script.specs.inner.Answers.{Answers};
-ghost use Rattle.geo_script.specs.Faults.{IsRefusal};
+ghost use Rattle.geo_script.specs.declared.fault.ScriptFault.{ScriptFault};
+ghost use Rattle.geo_script.specs.Faults.{IsFault, IsRefusal};
 ghost use Rattle.geo_script.specs.Lines.{lines_of};
 ghost use Rattle.geo_script.specs.inner.Scripts as spec;
 ghost use Rattle.geo_script.specs.Spelling.{IsScriptText};
@@ -36,11 +37,12 @@ use std::alloc::Global;
 /// Takes one pass over the bytes; each line that declares a table or an index copies the tables above it, of
 /// which there are at most 64.
 pub fn read_script(alloc: Global, bytes: &[u8], form: Form) -> Result<Script, ScriptRefusal>
-    ensures exact { Answers (λ script. script) result (spec.script_of form bytes.now) }
     ensures spelled { IfOk result (λ script. IsScriptText form bytes.now script) }
     ensures only { (script : Script) → IsScriptText form bytes.now script →
         MatchResult result (λ found. found ≡ script) (λ e. e ≡ ScriptRefusal.NoMemory) }
     ensures fault { IfErr result (λ e. IsRefusal form bytes.now e) }
+    ensures only_faults { (fault : ScriptFault) → IsFault form bytes.now fault →
+        MatchResult result (λ _. ⊥) (λ e. (e ≡ ScriptRefusal.NoMemory) ⊎ (e ≡ ScriptRefusal.Script fault)) }
 {
     read_text(alloc, form, bytes)
 }

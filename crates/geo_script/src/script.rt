@@ -1,8 +1,6 @@
-ghost use Rattle.std.specs.Prelude.{◌≡◌};
-
 use crate::event::Event;
+use geo_base::Many;
 use geo_schema::Schema;
-use std::marker::Model;
 
 /// The two forms of script.
 #[derive(Clone, Copy, Debug, PartialEq, Eq)]
@@ -22,36 +20,8 @@ pub struct EventAt {
     pub event: Event,
 }
 
-/// Events in the order of their lines. Contracts see the list.
-#[derive(Debug, Drop)]
-pub struct EventAtList {
-    items: Vec<EventAt>,
-}
-
-impl Model for EventAtList {
-    ghost use Rattle.std.specs.Prelude.{List};
-    ghost use Rattle.geo_script.specs.declared.script.EventAt.{EventAt};
-
-    ghost Value = { List EventAt };
-
-    ghost view = { λ l. l.items.items };
-}
-
-impl EventAtList {
-    /// The list of these events, in their order.
-    pub fn new(items: Vec<EventAt>) -> EventAtList
-        ensures { result ≡ items.items }
-    {
-        EventAtList { items }
-    }
-
-    /// The events, in the order of their lines.
-    pub fn items(&self) -> &[EventAt]
-        ensures { result.now ≡ self.now }
-    {
-        self.items.as_slice()
-    }
-}
+/// Events in the order of their lines.
+pub type EventAtList = Many<EventAt>;
 
 /// A script that was read.
 #[derive(Debug, Drop)]

@@ -5,7 +5,7 @@ ghost use Rattle.geo_script.specs.inner.Verbs as spec;
 
 /// The first word of an event line.
 #[derive(Clone, Copy, Debug, PartialEq, Eq)]
-pub enum Verb {
+pub(crate) enum Verb {
     Sql,
     Outcome,
     Seal,
@@ -19,7 +19,7 @@ pub enum Verb {
 }
 
 /// Each verb as it is written.
-pub const VERBS: [(&[u8], Verb); 10] = [
+pub(crate) const VERBS: [(&[u8], Verb); 10] = [
     (b"sql", Verb::Sql),
     (b"outcome", Verb::Outcome),
     (b"seal", Verb::Seal),
@@ -53,7 +53,7 @@ fn lookup(mut table: &[(&[u8], Verb)], word: &[u8]) -> Option<Verb>
 
 /// The verb that the word is.
 #[tactic(auto, unfolding(crate::specs::inner::Verbs::verb_of, crate::specs::inner::Verbs::verbs))]
-pub fn verb_of(word: &[u8]) -> Option<Verb>
+pub(crate) fn verb_of(word: &[u8]) -> Option<Verb>
     ensures { result ≡ spec.verb_of word.now }
 {
     lookup(&VERBS, word)

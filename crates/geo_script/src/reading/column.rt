@@ -84,7 +84,7 @@ fn named_column(alloc: Global, name: &Txt, typed: Typed) -> Result<Column, NoMem
 
 /// A column: its name, its type, and what may stand behind it.
 #[tactic(auto, unfolding(crate::specs::inner::TableLines::column_of))]
-pub fn column_of(alloc: Global, marks: &[Mark]) -> Result<Option<Column>, NoMemory>
+pub(crate) fn column_of(alloc: Global, marks: &[Mark]) -> Result<Option<Column>, NoMemory>
     ensures { IfOk result (λ found. found ≡ spec.column_of marks.now) }
 {
     let [Mark::Name(name), rest @ ..] = marks else {

@@ -82,7 +82,7 @@ fn is_begin(line: &[u8]) -> bool
 }
 
 /// The tables of all lines up to `begin`, and the rest behind that line.
-pub fn read_tables(alloc: Global, rest: Rest<'_>) -> Result<(Vec<TableDef>, Rest<'_>), ScriptRefusal>
+pub(crate) fn read_tables(alloc: Global, rest: Rest<'_>) -> Result<(Vec<TableDef>, Rest<'_>), ScriptRefusal>
     requires { rest.number + length rest.bytes.now < 2 ^ 32 }
     ensures head { Answers (λ head. (head.0.items, spoken head.1)) result (head_of (number_after rest.entry) [] (spoken rest.entry)) }
     ensures schema { IfOk result (λ head. IsSchema head.0.items) }

@@ -17,7 +17,7 @@ use geo_base::{NoMemory, RegionNo};
 use std::alloc::Global;
 
 /// The number from `least` to `most` that the word spells.
-pub fn number(least: u32, most: u32, word: &str) -> Result<u32, ScriptKind>
+pub(crate) fn number(least: u32, most: u32, word: &str) -> Result<u32, ScriptKind>
     ensures number { result ≡ spec.number least most word.now }
     ensures within { IfOk result (λ n. (least ≤ n) × (n ≤ most)) }
 {
@@ -67,7 +67,7 @@ fn sql_parts(regions: u8, rest: &str) -> Result<(RegionNo, u8, &str), ScriptKind
 }
 
 /// A statement, behind `sql`. Its text is the one part of a line that is copied.
-pub fn sql(alloc: Global, regions: u8, rest: &str) -> Result<Result<Event, ScriptKind>, NoMemory>
+pub(crate) fn sql(alloc: Global, regions: u8, rest: &str) -> Result<Result<Event, ScriptKind>, NoMemory>
     requires { 1 ≤ regions }
     ensures { IfOk result (λ found. found ≡ spec.sql regions rest.now) }
 {
@@ -86,7 +86,7 @@ pub fn sql(alloc: Global, regions: u8, rest: &str) -> Result<Result<Event, Scrip
 
 /// A session, behind `outcome`.
 #[tactic(auto, unfolding(crate::specs::inner::EventLines::outcome))]
-pub fn outcome(regions: u8, rest: &str) -> Result<Event, ScriptKind>
+pub(crate) fn outcome(regions: u8, rest: &str) -> Result<Event, ScriptKind>
     requires { 1 ≤ regions }
     ensures { result ≡ spec.outcome regions rest.now }
 {
@@ -99,7 +99,7 @@ pub fn outcome(regions: u8, rest: &str) -> Result<Event, ScriptKind>
 
 /// A region alone.
 #[tactic(auto, unfolding(crate::specs::inner::EventLines::only_region))]
-pub fn only_region(regions: u8, rest: &str) -> Result<RegionNo, ScriptKind>
+pub(crate) fn only_region(regions: u8, rest: &str) -> Result<RegionNo, ScriptKind>
     requires { 1 ≤ regions }
     ensures { result ≡ spec.only_region regions rest.now }
 {
@@ -112,7 +112,7 @@ pub fn only_region(regions: u8, rest: &str) -> Result<RegionNo, ScriptKind>
 
 /// Packets, behind `deliver`.
 #[tactic(auto, unfolding(crate::specs::inner::EventLines::deliver))]
-pub fn deliver(rest: &str) -> Result<Event, ScriptKind>
+pub(crate) fn deliver(rest: &str) -> Result<Event, ScriptKind>
     ensures { result ≡ spec.deliver rest.now }
 {
     let Some((first, last)) = packet_words(rest) else {
@@ -129,7 +129,7 @@ pub fn deliver(rest: &str) -> Result<Event, ScriptKind>
 
 /// Two regions and an epoch, behind `fetch`.
 #[tactic(auto, unfolding(crate::specs::inner::EventLines::fetch))]
-pub fn fetch(regions: u8, rest: &str) -> Result<Event, ScriptKind>
+pub(crate) fn fetch(regions: u8, rest: &str) -> Result<Event, ScriptKind>
     requires { 1 ≤ regions }
     ensures { result ≡ spec.fetch regions rest.now }
 {
@@ -152,7 +152,7 @@ pub fn fetch(regions: u8, rest: &str) -> Result<Event, ScriptKind>
 
 /// A region and a seat of its round, behind `work`.
 #[tactic(auto, unfolding(crate::specs::inner::EventLines::work))]
-pub fn work(regions: u8, rest: &str) -> Result<Event, ScriptKind>
+pub(crate) fn work(regions: u8, rest: &str) -> Result<Event, ScriptKind>
     requires { 1 ≤ regions }
     ensures { result ≡ spec.work regions rest.now }
 {
@@ -169,7 +169,7 @@ pub fn work(regions: u8, rest: &str) -> Result<Event, ScriptKind>
 
 /// A region, and what becomes of its open epoch, behind `crash`.
 #[tactic(auto, unfolding(crate::specs::inner::EventLines::crash))]
-pub fn crash(regions: u8, rest: &str) -> Result<Event, ScriptKind>
+pub(crate) fn crash(regions: u8, rest: &str) -> Result<Event, ScriptKind>
     requires { 1 ≤ regions }
     ensures { result ≡ spec.crash regions rest.now }
 {
@@ -195,7 +195,7 @@ fn fresh_region(regions: u8, past: &Past, word: &str) -> Result<RegionNo, Script
 
 /// A region and an epoch, behind `crash` in a run.
 #[tactic(auto, unfolding(crate::specs::inner::EventLines::crash_after))]
-pub fn crash_after(regions: u8, past: &Past, rest: &str) -> Result<Event, ScriptKind>
+pub(crate) fn crash_after(regions: u8, past: &Past, rest: &str) -> Result<Event, ScriptKind>
     requires { 1 ≤ regions }
     ensures { result ≡ spec.crash_after regions past.now rest.now }
 {

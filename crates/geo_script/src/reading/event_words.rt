@@ -8,7 +8,7 @@ use crate::reading::words::{cut_at_space, is_word, three_words, two_words};
 
 /// A session's place, and the statement behind the next space.
 #[tactic(auto, unfolding(crate::specs::inner::EventLines::statement_parts))]
-pub fn statement_parts(rest: &str) -> Option<(&str, &str)>
+pub(crate) fn statement_parts(rest: &str) -> Option<(&str, &str)>
     ensures { MatchOption result
         (spec.statement_parts rest.now ≡ None)
         (λ p. spec.statement_parts rest.now ≡ Some (p.0.now, p.1.now)) }
@@ -23,7 +23,7 @@ pub fn statement_parts(rest: &str) -> Option<(&str, &str)>
 
 /// The first packet and the last one, or one that is both.
 #[tactic(auto, unfolding(crate::specs::inner::EventLines::packet_words))]
-pub fn packet_words(rest: &str) -> Option<(&str, &str)>
+pub(crate) fn packet_words(rest: &str) -> Option<(&str, &str)>
     ensures { MatchOption result
         (spec.packet_words rest.now ≡ None)
         (λ p. spec.packet_words rest.now ≡ Some (p.0.now, p.1.now)) }
@@ -53,7 +53,7 @@ fn sealing_of(sealing: &str, fate: &str) -> Option<Sealing>
 
 /// A region alone, or one and what becomes of its open epoch.
 #[tactic(auto, unfolding(crate::specs::inner::EventLines::crash_words))]
-pub fn crash_words(rest: &str) -> Option<(&str, Sealing)>
+pub(crate) fn crash_words(rest: &str) -> Option<(&str, Sealing)>
     ensures { MatchOption result
         (spec.crash_words rest.now ≡ None)
         (λ p. spec.crash_words rest.now ≡ Some (p.0.now, p.1)) }
@@ -68,7 +68,7 @@ pub fn crash_words(rest: &str) -> Option<(&str, Sealing)>
 
 /// A region and an epoch, with the word `after` between them.
 #[tactic(auto, unfolding(crate::specs::inner::EventLines::after_words))]
-pub fn after_words(rest: &str) -> Option<(&str, &str)>
+pub(crate) fn after_words(rest: &str) -> Option<(&str, &str)>
     ensures { MatchOption result
         (spec.after_words rest.now ≡ None)
         (λ p. spec.after_words rest.now ≡ Some (p.0.now, p.1.now)) }

@@ -158,7 +158,7 @@ fn event_line(
 }
 
 /// The events of all lines that say something.
-pub fn read_events(
+pub(crate) fn read_events(
     alloc: Global,
     form: Form,
     regions: u8,

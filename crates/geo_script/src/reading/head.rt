@@ -27,7 +27,7 @@ fn title(form: Form) -> &'static str
 
 /// The line that names the form.
 #[tactic(auto, unfolding(crate::specs::inner::Scripts::title_line))]
-pub fn title_line(form: Form, line: &[u8]) -> Result<(), ScriptKind>
+pub(crate) fn title_line(form: Form, line: &[u8]) -> Result<(), ScriptKind>
     ensures { MatchResult result
         (λ _. spec.title_line form line.now ≡ Ok tt)
         (λ kind. spec.title_line form line.now ≡ Err kind) }
@@ -58,7 +58,7 @@ fn regions_word(line: &str) -> Result<&str, ScriptKind>
 
 /// The line that says how many regions there are.
 #[tactic(auto, unfolding(crate::specs::inner::Scripts::regions_line))]
-pub fn regions_line(line: &[u8]) -> Result<u8, ScriptKind>
+pub(crate) fn regions_line(line: &[u8]) -> Result<u8, ScriptKind>
     ensures regions { result ≡ spec.regions_line line.now }
     ensures some { IfOk result (λ regions. 1 ≤ regions) }
 {

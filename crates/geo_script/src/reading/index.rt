@@ -249,7 +249,7 @@ fn add_index(
 
 /// The tables with the index that the text declares.
 #[tactic(auto, unfolding(crate::specs::inner::TableLines::with_index))]
-pub fn with_index(
+pub(crate) fn with_index(
     alloc: Global,
     tables: Vec<TableDef>,
     text: &str,

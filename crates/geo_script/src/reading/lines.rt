@@ -10,14 +10,14 @@ use memchr::memchr;
 
 /// The rest of a script, from the line with this number on.
 #[derive(Clone, Copy, Debug)]
-pub struct Rest<'a> {
+pub(crate) struct Rest<'a> {
     pub bytes: &'a [u8],
     pub number: u32,
 }
 
 /// A line that says something, its number, and the rest behind it.
 #[derive(Clone, Copy, Debug)]
-pub struct Spoken<'a> {
+pub(crate) struct Spoken<'a> {
     pub line: &'a [u8],
     pub number: u32,
     pub rest: Rest<'a>,
@@ -50,7 +50,7 @@ fn last_line(bytes: &[u8]) -> Option<(&[u8], &[u8])>
 }
 
 /// The first line, and what stands behind it.
-pub fn next_line(bytes: &[u8]) -> Option<(&[u8], &[u8])>
+pub(crate) fn next_line(bytes: &[u8]) -> Option<(&[u8], &[u8])>
     ensures line { MatchOption result
         (spec.lines_of bytes.now ≡ [])
         (λ p. spec.lines_of bytes.now ≡ p.0.now ∷ spec.lines_of p.1.now) }
@@ -71,7 +71,7 @@ fn is_text(bytes: &[u8]) -> bool
 }
 
 /// The line as a text.
-pub fn text_of(line: &[u8]) -> Result<&str, ScriptKind>
+pub(crate) fn text_of(line: &[u8]) -> Result<&str, ScriptKind>
     ensures { MatchResult result
         (λ text. (text.now ≡ line.now) × (is_utf8 line.now ≡ true))
         (λ kind. (kind ≡ NotUtf8) × (is_utf8 line.now ≡ false)) }
@@ -91,7 +91,7 @@ fn is_silent(line: &[u8]) -> bool
 }
 
 /// The next line that says something; or, where there is none, the number of the line after the last.
-pub fn next_spoken(rest: Rest<'_>) -> Result<Spoken<'_>, u32>
+pub(crate) fn next_spoken(rest: Rest<'_>) -> Result<Spoken<'_>, u32>
     requires { rest.number + length rest.bytes.now < 2 ^ 32 }
     ensures lines { MatchResult result
         (λ s. spoken rest.entry ≡ (s.number, s.line.now) ∷ spoken s.rest)

@@ -26,7 +26,7 @@ fn parts(alloc: Global, marks: &[Mark]) -> Result<Vec<&[Mark]>, NoMemory>
 
 /// The items of a list in parentheses.
 #[tactic(auto, unfolding(crate::specs::inner::TableLines::listed))]
-pub fn listed(alloc: Global, marks: &[Mark]) -> Result<Option<Vec<&[Mark]>>, NoMemory>
+pub(crate) fn listed(alloc: Global, marks: &[Mark]) -> Result<Option<Vec<&[Mark]>>, NoMemory>
     ensures { IfOk result (λ found. option_map (λ items. map (λ item. item.now) items.items) found ≡ spec.listed marks.now) }
 {
     let [Mark::Open, rest @ ..] = marks else {

@@ -112,7 +112,7 @@ fn table_of(alloc: Global, marks: &[Mark]) -> Result<Option<TableDef>, NoMemory>
 }
 
 /// The table that the text declares.
-pub fn declared_table(alloc: Global, text: &str) -> Result<Option<TableDef>, NoMemory>
+pub(crate) fn declared_table(alloc: Global, text: &str) -> Result<Option<TableDef>, NoMemory>
     requires { length text.now < 2 ^ 32 }
     ensures { IfOk result (λ found. found ≡ option_and_then spec.table_of (marks_spec.marks_of text.now)) }
 {
@@ -124,7 +124,7 @@ pub fn declared_table(alloc: Global, text: &str) -> Result<Option<TableDef>, NoM
 
 /// Whether the tables are a schema. Works on a copy of them, of which a schema has at most 64.
 #[tactic(auto, using(crate::proofs::SchemaTables::schema_faultless, crate::proofs::SchemaTables::fault_found))]
-pub fn are_schema(alloc: Global, tables: &[TableDef]) -> Result<bool, NoMemory>
+pub(crate) fn are_schema(alloc: Global, tables: &[TableDef]) -> Result<bool, NoMemory>
     ensures { IfOk result (λ are. are ≡ is_none (schema_fault tables.now)) }
 {
     match Schema::new(alloc, copy_items(alloc, tables)?) {
@@ -136,7 +136,7 @@ pub fn are_schema(alloc: Global, tables: &[TableDef]) -> Result<bool, NoMemory>
 
 /// The tables, if they are a schema.
 #[tactic(auto, using(crate::proofs::SchemaTables::faultless_kept))]
-pub fn if_schema(
+pub(crate) fn if_schema(
     alloc: Global,
     kind: ScriptKind,
     tables: Vec<TableDef>,
@@ -155,7 +155,7 @@ pub fn if_schema(
 
 /// The tables with the one that the text declares.
 #[tactic(auto, unfolding(crate::specs::inner::TableLines::with_table))]
-pub fn with_table(
+pub(crate) fn with_table(
     alloc: Global,
     mut tables: Vec<TableDef>,
     text: &str,

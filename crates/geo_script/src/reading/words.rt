@@ -6,7 +6,7 @@ ghost use Rattle.geo_script.specs.Words.{is_word};
 ghost use Rattle.geo_script.specs.inner.Words as spec;
 
 /// What stands before the first space, and what stands behind it.
-pub fn cut_at_space(text: &str) -> Option<(&str, &str)>
+pub(crate) fn cut_at_space(text: &str) -> Option<(&str, &str)>
     ensures parts { MatchOption result (spec.cut 32 text.now ≡ None) (λ p. spec.cut 32 text.now ≡ Some (p.0.now, p.1.now)) }
     ensures within { IfSome result (λ p. (length p.0.now ≤ length text.now) × (length p.1.now ≤ length text.now)) }
 {
@@ -14,7 +14,7 @@ pub fn cut_at_space(text: &str) -> Option<(&str, &str)>
 }
 
 /// What stands before the first dot, and what stands behind it.
-pub fn cut_at_dot(text: &str) -> Option<(&str, &str)>
+pub(crate) fn cut_at_dot(text: &str) -> Option<(&str, &str)>
     ensures { MatchOption result (spec.cut 46 text.now ≡ None) (λ p. spec.cut 46 text.now ≡ Some (p.0.now, p.1.now)) }
 {
     text.split_once('.')
@@ -28,7 +28,7 @@ fn lacks_space(bytes: &[u8]) -> bool
 
 /// At least one byte, and no space among them.
 #[tactic(auto, unfolding(crate::specs::Words::is_word))]
-pub fn is_word(text: &str) -> bool
+pub(crate) fn is_word(text: &str) -> bool
     ensures { result ≡ is_word text.now }
 {
     !text.is_empty() && lacks_space(text.as_bytes())
@@ -36,7 +36,7 @@ pub fn is_word(text: &str) -> bool
 
 /// Two words, with one space between them.
 #[tactic(auto, unfolding(crate::specs::inner::Words::two_words))]
-pub fn two_words(text: &str) -> Option<(&str, &str)>
+pub(crate) fn two_words(text: &str) -> Option<(&str, &str)>
     ensures { MatchOption result (spec.two_words text.now ≡ None) (λ p. spec.two_words text.now ≡ Some (p.0.now, p.1.now)) }
 {
     let (first, second) = cut_at_space(text)?;
@@ -49,7 +49,7 @@ pub fn two_words(text: &str) -> Option<(&str, &str)>
 
 /// Three words, with one space between each two.
 #[tactic(auto, unfolding(crate::specs::inner::Words::three_words))]
-pub fn three_words(text: &str) -> Option<(&str, &str, &str)>
+pub(crate) fn three_words(text: &str) -> Option<(&str, &str, &str)>
     ensures { MatchOption result (spec.three_words text.now ≡ None) (λ p. spec.three_words text.now ≡ Some (p.0.now, p.1.now, p.2.now)) }
 {
     let (first, rest) = cut_at_space(text)?;
@@ -76,7 +76,7 @@ fn is_numeral(text: &str) -> bool
 }
 
 /// The number that the word spells, if it is from `least` to `most`.
-pub fn number_within(least: u32, most: u32, word: &str) -> Option<u32>
+pub(crate) fn number_within(least: u32, most: u32, word: &str) -> Option<u32>
     ensures number { result ≡ spec.number_within least most word.now }
     ensures within { IfSome result (λ n. (least ≤ n) × (n ≤ most)) }
 {
