@@ -8,6 +8,7 @@ use Rattle.std.proofs.lemmas.Bool.{le-leb, ne_eqb}
 use Rattle.std.proofs.lemmas.List.{length-map, length-append, get_or_at}
 use Rattle.std.proofs.lemmas.Slice.Eq.{bytes_eq-Decides}
 use Rattle.geo_base.specs.declared.limits.TheConstants.{MAX_COLUMNS}
+use Rattle.geo_base.specs.laws.Results.{bind_ok}
 use Rattle.geo_schema.specs.declared.column.ColumnDef.{ColumnDef}
 use Rattle.geo_schema.specs.declared.index.IndexDef.{IndexDef}
 use Rattle.geo_schema.specs.declared.table.TableDef.{TableDef}
@@ -26,7 +27,7 @@ use Rattle.geo_script.specs.inner.Words.{cut}
 use Rattle.geo_script.proofs.Closing.{closing}
 use Rattle.geo_script.proofs.Columns.{column_is, column_read}
 use Rattle.geo_script.proofs.Cuts.{Lacks, cut_at, cut_parts}
-use Rattle.geo_script.proofs.Inversions.{step_ok, or_ok, then_some, map_some, if_ok, unless_ok, when_ok, if_some, when_some, some_same}
+use Rattle.geo_script.proofs.Inversions.{or_ok, then_some, map_some, if_ok, unless_ok, when_ok, if_some, when_some, some_same}
 use Rattle.geo_script.proofs.NameTokens.{name_word}
 use Rattle.geo_script.proofs.SchemaTables.{few_columns_at, faultless_kept, schema_faultless}
 use Rattle.geo_script.proofs.TextMarks.{marks_are, marks_read}
@@ -131,7 +132,7 @@ table_declared : (tables : List TableDef) (text : List ℕ) (more : List TableDe
     Declares tables (codes "table " ++ text) more × IsSchema more
 unfolding with_table
 table_declared tables text more is =
-    let found = step_ok (ok_or (option_and_then table_of (marks_of text)) BadTable) _ more is in
+    let found = bind_ok (ok_or (option_and_then table_of (marks_of text)) BadTable) _ more is in
     let marks = then_some table_of (marks_of text) found.0 (or_ok (option_and_then table_of (marks_of text)) BadTable found.0 found.1) in
     let table = table_is marks.0 found.0 marks.2 in
     let kept = kept_is BadTable (tables ++ found.0 ∷ []) more found.2 in
@@ -189,8 +190,8 @@ record IsOnLine (text word rest : List ℕ) : Type 0 where
 parts_are : (text : List ℕ) (parts : List ℕ × List ℕ) → index_parts text ≡ Ok parts → IsOnLine text parts.0 parts.1
 unfolding index_parts
 parts_are text parts is =
-    let first = step_ok (first_word text) _ parts is in
-    let second = step_ok (first_word first.0.1) _ parts first.2 in
+    let first = bind_ok (first_word text) _ parts is in
+    let second = bind_ok (first_word first.0.1) _ parts first.2 in
     let kept = if_ok (bytes_eq second.0.0 (codes "on")) (first.0.0, second.0.1) parts BadIndex second.2 in
     let one = word_is text first.0 first.1 in
     let other = word_is first.0.1 second.0 second.1 in
@@ -253,9 +254,9 @@ index_declared : (tables : List TableDef) (text : List ℕ) (more : List TableDe
     Declares tables (codes "index " ++ text) more × IsSchema more
 unfolding with_index index_of index_at
 index_declared tables text more is =
-    let parts = step_ok (index_parts text) _ more is in
+    let parts = bind_ok (index_parts text) _ more is in
     let on = parts_are text parts.0 parts.1 in
-    let found = step_ok (ok_or (index_of tables parts.0.0 parts.0.1) BadIndex) _ more parts.2 in
+    let found = bind_ok (ok_or (index_of tables parts.0.0 parts.0.1) BadIndex) _ more parts.2 in
     let name = then_some _ (index_name parts.0.0) found.0 (or_ok (index_of tables parts.0.0 parts.0.1) BadIndex found.0 found.1) in
     let named = index_name_is parts.0.0 name.0 name.1 in
     let list = then_some _ (option_and_then named_list (marks_of parts.0.1)) found.0 name.2 in

@@ -6,6 +6,7 @@ use Rattle.std.specs.Option.{ok_or}
 use Rattle.std.specs.Str.{bytes_eq, is_utf8}
 use Rattle.std.proofs.lemmas.Bool.{ltb-true}
 use Rattle.std.proofs.lemmas.Slice.Eq.{bytes_eq-Decides}
+use Rattle.geo_base.specs.laws.Results.{bind_ok}
 use Rattle.geo_script.specs.declared.event.Event.{Event}
 use Rattle.geo_script.specs.declared.event.Event.TheVariants as event
 use Rattle.geo_script.specs.declared.fault.ScriptKind.TheVariants.{NotUtf8, BadLine, LongStatement, TooManySessions}
@@ -20,7 +21,7 @@ use Rattle.geo_script.specs.inner.Past.{RunPast, has_crash, has_session}
 use Rattle.geo_base.specs.Results.{◌>>=◌}
 use Rattle.geo_script.specs.inner.Words.{three_words}
 use Rattle.geo_script.proofs.VerbTexts.{verb_parts}
-use Rattle.geo_script.proofs.Inversions.{step_ok, or_ok, then_some, if_ok, unless_ok, when_ok, if_some}
+use Rattle.geo_script.proofs.Inversions.{or_ok, then_some, if_ok, unless_ok, when_ok, if_some}
 use Rattle.geo_script.proofs.PlayLines.{IsRegions, Asks, number_is, region_is, three_are, sql_asks, outcome_asks, seal_asks, publish_asks, show_asks, restart_asks, deliver_asks, fetch_asks, work_asks, crash_asks}
 
 -- ---- runs
@@ -63,10 +64,10 @@ pub crash_after_asks : (regions : ℕ) → IsRegions regions → (past : RunPast
     AsksNow Run regions past (codes "crash " ++ rest) asked
 unfolding crash_after
 crash_after_asks regions lawful past rest asked is =
-    let words = step_ok (ok_or (after_words rest) BadLine) _ asked is in
+    let words = bind_ok (ok_or (after_words rest) BadLine) _ asked is in
     let text = after_are rest words.0 (or_ok (after_words rest) BadLine words.0 words.1) in
-    let at = step_ok (fresh_region past (region regions words.0.0)) _ asked words.2 in
-    let last = step_ok (number 1 LAST_CRASH_EPOCH words.0.1) _ asked at.2 in
+    let at = bind_ok (fresh_region past (region regions words.0.0)) _ asked words.2 in
+    let last = bind_ok (number 1 LAST_CRASH_EPOCH words.0.1) _ asked at.2 in
     let fresh = fresh_is past (region regions words.0.0) at.0 at.1 in
     let one = region_is regions lawful words.0.0 at.0 fresh.is in
     let epoch = number_is 1 LAST_CRASH_EPOCH words.0.1 last.0 (omega arith) last.1 in
@@ -90,8 +91,8 @@ pub record IsSql (found : Event) : Type 0 where
 pub sql_is : (regions : ℕ) (rest : List ℕ) (found : Event) → sql regions rest ≡ Ok found → IsSql found
 unfolding sql
 sql_is regions rest found is =
-    let parts = step_ok (ok_or (statement_parts rest) BadLine) _ found is in
-    let at = step_ok (place regions parts.0.0) _ found parts.2 in
+    let parts = bind_ok (ok_or (statement_parts rest) BadLine) _ found is in
+    let at = bind_ok (place regions parts.0.0) _ found parts.2 in
     let fits = if_ok (nat_le (length parts.0.1) STATEMENT_BYTES) (event.Sql at.0.0 at.0.1 parts.0.1) found LongStatement at.2 in
     record { at = at.0.0; session = at.0.1; text = parts.0.1; is = fits.1 }
 
@@ -120,7 +121,7 @@ let_in_found past found asked sql is =
 run_sql_asks : (regions : ℕ) → IsRegions regions → (past : RunPast) (rest : List ℕ) (asked : Event) → (sql regions rest >>= if_admitted past) ≡ Ok asked →
     AsksNow Run regions past (codes "sql " ++ rest) asked
 run_sql_asks regions lawful past rest asked is =
-    let found = step_ok (sql regions rest) (if_admitted past) asked is in
+    let found = bind_ok (sql regions rest) (if_admitted past) asked is in
     let in' = let_in_found past found.0 asked (sql_is regions rest found.0 found.1) found.2 in
     record { asks = subst (Asks Run regions (codes "sql " ++ rest)) in'.same (sql_asks Run regions lawful rest found.0 found.1); admitted = in'.admitted }
 
@@ -170,6 +171,6 @@ pub line_asks : (form : Form) (regions : ℕ) → IsRegions regions → (past : 
 unfolding event_line event_of
 line_asks form regions lawful past line asked is =
     let text = when_ok (is_utf8 line) _ asked NotUtf8 is in
-    let parts = step_ok (ok_or (verb_and_rest line) BadLine) _ asked text.1 in
+    let parts = bind_ok (ok_or (verb_and_rest line) BadLine) _ asked text.1 in
     let whole = verb_parts line parts.0 (or_ok (verb_and_rest line) BadLine parts.0 parts.1) in
     record { utf8 = text.0; now = subst (λ l. AsksNow form regions past l asked) (sym whole) (form_asks form regions lawful past parts.0.0 parts.0.1 asked parts.2) }

@@ -3,11 +3,6 @@ use Rattle.std.proofs.Common.{◌≡◌, Bool, true, false, cond, Option, Some, 
 use Rattle.std.specs.Option.{ok_or}
 use Rattle.geo_base.specs.Results.{◌>>=◌}
 
-pub step_err : {A B E : Type 0} (first : Result A E) (next : A → Result B E) (k : E) → (first >>= next) ≡ Err k →
-    (first ≡ Err k) ⊎ ((x : A) × (first ≡ Ok x) × (next x ≡ Err k))
-step_err (Ok x) next k is = inr (x, refl, is)
-step_err (Err e) next k is = inl cc
-
 pub or_err : {A E : Type 0} (o : Option A) (e k : E) → ok_or o e ≡ Err k → (o ≡ None) × (e ≡ k)
 or_err None e k is = (refl, cc)
 or_err (Some x) e k is = cc

@@ -1,11 +1,6 @@
 -- What steps answered where the whole of them answered something.
 use Rattle.std.proofs.Common.{◌≡◌, Bool, true, false, cond, Option, Some, None, Result, Ok, Err, refl}
 use Rattle.std.specs.Option.{option_map, option_and_then, ok_or}
-use Rattle.geo_base.specs.Results.{◌>>=◌}
-
-pub step_ok : {A B E : Type 0} (first : Result A E) (next : A → Result B E) (y : B) → (first >>= next) ≡ Ok y → (x : A) × (first ≡ Ok x) × (next x ≡ Ok y)
-step_ok (Ok x) next y is = (x, refl, is)
-step_ok (Err e) next y is = cc
 
 pub or_ok : {A E : Type 0} (o : Option A) (e : E) (x : A) → ok_or o e ≡ Ok x → o ≡ Some x
 or_ok None e x is = cc

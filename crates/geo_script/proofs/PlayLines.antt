@@ -9,6 +9,7 @@ use Rattle.std.proofs.lemmas.Fmt.{decimal_injective}
 use Rattle.std.proofs.lemmas.List.{append-nil}
 use Rattle.std.proofs.lemmas.Slice.Eq.{bytes_eq-Decides}
 use Rattle.geo_base.specs.declared.limits.TheConstants.{MAX_REGIONS, PACKETS_PER_LINE, SESSIONS_PER_REGION}
+use Rattle.geo_base.specs.laws.Results.{bind_ok}
 use Rattle.geo_script.specs.declared.event.Event.{Event}
 use Rattle.geo_script.specs.declared.event.Event.TheVariants as event
 use Rattle.geo_script.specs.declared.event.Sealing.{Sealing}
@@ -24,7 +25,7 @@ use Rattle.geo_script.specs.inner.Words.{cut, two_words, three_words, number_wit
 use Rattle.geo_script.specs.Words.{is_word}
 use Rattle.geo_script.proofs.Cuts.{cut_parts}
 use Rattle.geo_script.proofs.Decimals.{SpellsWithin, number_spelled}
-use Rattle.geo_script.proofs.Inversions.{step_ok, or_ok, then_some, if_ok, unless_ok, when_ok, if_some, when_some}
+use Rattle.geo_script.proofs.Inversions.{or_ok, then_some, if_ok, unless_ok, when_ok, if_some, when_some}
 
 -- a number of regions
 pub record IsRegions (regions : ℕ) : Type 0 where
@@ -59,10 +60,10 @@ pub record SpellsPlace (regions : ℕ) (word : List ℕ) (at : ℕ × ℕ) : Typ
 pub place_is : (regions : ℕ) → IsRegions regions → (word : List ℕ) (at : ℕ × ℕ) → place regions word ≡ Ok at → SpellsPlace regions word at
 unfolding place
 place_is regions lawful word at is =
-    let cuts = step_ok (ok_or (cut 46 word) BadNumber) _ at is in
+    let cuts = bind_ok (ok_or (cut 46 word) BadNumber) _ at is in
     let found = cut_parts 46 word cuts.0 (or_ok (cut 46 word) BadNumber cuts.0 cuts.1) in
-    let first = step_ok (region regions cuts.0.0) _ at cuts.2 in
-    let second = step_ok (number 0 (SESSIONS_PER_REGION - 1) cuts.0.1) _ at first.2 in
+    let first = bind_ok (region regions cuts.0.0) _ at cuts.2 in
+    let second = bind_ok (number 0 (SESSIONS_PER_REGION - 1) cuts.0.1) _ at first.2 in
     let one = region_is regions lawful cuts.0.0 first.0 first.1 in
     let other = number_is 0 (SESSIONS_PER_REGION - 1) cuts.0.1 second.0 (omega arith) second.1 in
     let same : (first.0, second.0) ≡ at = cc in
@@ -94,9 +95,9 @@ sql_of_form Run region session text = tt
 pub sql_asks : (form : Form) (regions : ℕ) → IsRegions regions → (rest : List ℕ) (asked : Event) → sql regions rest ≡ Ok asked → Asks form regions (codes "sql " ++ rest) asked
 unfolding sql
 sql_asks form regions lawful rest asked is =
-    let parts = step_ok (ok_or (statement_parts rest) BadLine) _ asked is in
+    let parts = bind_ok (ok_or (statement_parts rest) BadLine) _ asked is in
     let found = parts_are rest parts.0 (or_ok (statement_parts rest) BadLine parts.0 parts.1) in
-    let at = step_ok (place regions parts.0.0) _ asked parts.2 in
+    let at = bind_ok (place regions parts.0.0) _ asked parts.2 in
     let spelled = place_is regions lawful parts.0.0 at.0 at.1 in
     let fits = if_ok (nat_le (length parts.0.1) STATEMENT_BYTES) (event.Sql at.0.0 at.0.1 parts.0.1) asked LongStatement at.2 in
     let short : length parts.0.1 ≤ STATEMENT_BYTES = leb-true (length parts.0.1) STATEMENT_BYTES fits.0 in
@@ -110,7 +111,7 @@ pub outcome_asks : (regions : ℕ) → IsRegions regions → (rest : List ℕ) (
 unfolding outcome
 outcome_asks regions lawful rest asked is =
     let word = when_ok (is_word rest) _ asked BadLine is in
-    let at = step_ok (place regions rest) _ asked word.1 in
+    let at = bind_ok (place regions rest) _ asked word.1 in
     let spelled = place_is regions lawful rest at.0 at.1 in
     let same : event.Outcome at.0.0 at.0.1 ≡ asked = cc in
     subst (Asks Play regions (codes "outcome " ++ rest)) same record {
@@ -126,7 +127,7 @@ only_is regions lawful rest at is = region_is regions lawful rest at (when_ok (i
 pub seal_asks : (regions : ℕ) → IsRegions regions → (rest : List ℕ) (asked : Event) → (only_region regions rest >>= λ at. Ok (event.Seal at)) ≡ Ok asked →
     Asks Play regions (codes "seal " ++ rest) asked
 seal_asks regions lawful rest asked is =
-    let at = step_ok (only_region regions rest) _ asked is in
+    let at = bind_ok (only_region regions rest) _ asked is in
     let spelled = only_is regions lawful rest at.0 at.1 in
     let same : event.Seal at.0 ≡ asked = cc in
     subst (Asks Play regions (codes "seal " ++ rest)) same record { of_form = tt; typed = inl (ap (λ w. codes "seal " ++ w) spelled.spelled); within = spelled.within }
@@ -134,7 +135,7 @@ seal_asks regions lawful rest asked is =
 pub publish_asks : (regions : ℕ) → IsRegions regions → (rest : List ℕ) (asked : Event) → (only_region regions rest >>= λ at. Ok (event.Publish at)) ≡ Ok asked →
     Asks Play regions (codes "publish " ++ rest) asked
 publish_asks regions lawful rest asked is =
-    let at = step_ok (only_region regions rest) _ asked is in
+    let at = bind_ok (only_region regions rest) _ asked is in
     let spelled = only_is regions lawful rest at.0 at.1 in
     let same : event.Publish at.0 ≡ asked = cc in
     subst (Asks Play regions (codes "publish " ++ rest)) same record { of_form = tt; typed = inl (ap (λ w. codes "publish " ++ w) spelled.spelled); within = spelled.within }
@@ -142,7 +143,7 @@ publish_asks regions lawful rest asked is =
 pub show_asks : (regions : ℕ) → IsRegions regions → (rest : List ℕ) (asked : Event) → (only_region regions rest >>= λ at. Ok (event.Show at)) ≡ Ok asked →
     Asks Play regions (codes "show " ++ rest) asked
 show_asks regions lawful rest asked is =
-    let at = step_ok (only_region regions rest) _ asked is in
+    let at = bind_ok (only_region regions rest) _ asked is in
     let spelled = only_is regions lawful rest at.0 at.1 in
     let same : event.Show at.0 ≡ asked = cc in
     subst (Asks Play regions (codes "show " ++ rest)) same record { of_form = tt; typed = inl (ap (λ w. codes "show " ++ w) spelled.spelled); within = spelled.within }
@@ -150,7 +151,7 @@ show_asks regions lawful rest asked is =
 pub restart_asks : (regions : ℕ) → IsRegions regions → (rest : List ℕ) (asked : Event) → (only_region regions rest >>= λ at. Ok (event.Restart at)) ≡ Ok asked →
     Asks Play regions (codes "restart " ++ rest) asked
 restart_asks regions lawful rest asked is =
-    let at = step_ok (only_region regions rest) _ asked is in
+    let at = bind_ok (only_region regions rest) _ asked is in
     let spelled = only_is regions lawful rest at.0 at.1 in
     let same : event.Restart at.0 ≡ asked = cc in
     subst (Asks Play regions (codes "restart " ++ rest)) same record { of_form = tt; typed = inl (ap (λ w. codes "restart " ++ w) spelled.spelled); within = spelled.within }
@@ -206,9 +207,9 @@ delivers rest words first last (inr both) one other =
 pub deliver_asks : (regions : ℕ) (rest : List ℕ) (asked : Event) → deliver rest ≡ Ok asked → Asks Play regions (codes "deliver " ++ rest) asked
 unfolding deliver
 deliver_asks regions rest asked is =
-    let words = step_ok (ok_or (packet_words rest) BadLine) _ asked is in
-    let first = step_ok (number 0 LAST_PACKET words.0.0) _ asked words.2 in
-    let last = step_ok (number 0 LAST_PACKET words.0.1) _ asked first.2 in
+    let words = bind_ok (ok_or (packet_words rest) BadLine) _ asked is in
+    let first = bind_ok (number 0 LAST_PACKET words.0.0) _ asked words.2 in
+    let last = bind_ok (number 0 LAST_PACKET words.0.1) _ asked first.2 in
     let one = number_is 0 LAST_PACKET words.0.0 first.0 (omega arith) first.1 in
     let other = number_is 0 LAST_PACKET words.0.1 last.0 (omega arith) last.1 in
     let fits = if_ok (nat_le first.0 last.0 && nat_lt (last.0 - first.0) PACKETS_PER_LINE) (event.Deliver first.0 last.0) asked BadNumber last.2 in
@@ -224,11 +225,11 @@ deliver_asks regions rest asked is =
 pub fetch_asks : (regions : ℕ) → IsRegions regions → (rest : List ℕ) (asked : Event) → fetch regions rest ≡ Ok asked → Asks Play regions (codes "fetch " ++ rest) asked
 unfolding fetch
 fetch_asks regions lawful rest asked is =
-    let words = step_ok (ok_or (three_words rest) BadLine) _ asked is in
+    let words = bind_ok (ok_or (three_words rest) BadLine) _ asked is in
     let found = three_are rest words.0 (or_ok (three_words rest) BadLine words.0 words.1) in
-    let from = step_ok (region regions words.0.0) _ asked words.2 in
-    let of = step_ok (region regions words.0.1) _ asked from.2 in
-    let last = step_ok (number 1 LAST_ASKED_EPOCH words.0.2) _ asked of.2 in
+    let from = bind_ok (region regions words.0.0) _ asked words.2 in
+    let of = bind_ok (region regions words.0.1) _ asked from.2 in
+    let last = bind_ok (number 1 LAST_ASKED_EPOCH words.0.2) _ asked of.2 in
     let one = region_is regions lawful words.0.0 from.0 from.1 in
     let other = region_is regions lawful words.0.1 of.0 of.1 in
     let epoch = number_is 1 LAST_ASKED_EPOCH words.0.2 last.0 (omega arith) last.1 in
@@ -245,10 +246,10 @@ fetch_asks regions lawful rest asked is =
 pub work_asks : (regions : ℕ) → IsRegions regions → (rest : List ℕ) (asked : Event) → work regions rest ≡ Ok asked → Asks Play regions (codes "work " ++ rest) asked
 unfolding work
 work_asks regions lawful rest asked is =
-    let words = step_ok (ok_or (two_words rest) BadLine) _ asked is in
+    let words = bind_ok (ok_or (two_words rest) BadLine) _ asked is in
     let found = two_are rest words.0 (or_ok (two_words rest) BadLine words.0 words.1) in
-    let at = step_ok (region regions words.0.0) _ asked words.2 in
-    let seat = step_ok (number 0 (SEATS_PER_ROUND - 1) words.0.1) _ asked at.2 in
+    let at = bind_ok (region regions words.0.0) _ asked words.2 in
+    let seat = bind_ok (number 0 (SEATS_PER_ROUND - 1) words.0.1) _ asked at.2 in
     let one = region_is regions lawful words.0.0 at.0 at.1 in
     let other = number_is 0 (SEATS_PER_ROUND - 1) words.0.1 seat.0 (omega arith) seat.1 in
     let same : event.Work at.0 seat.0 ≡ asked = cc in
@@ -299,9 +300,9 @@ crash_words_are rest words is = by (is_word rest) is
 pub crash_asks : (regions : ℕ) → IsRegions regions → (rest : List ℕ) (asked : Event) → crash regions rest ≡ Ok asked → Asks Play regions (codes "crash " ++ rest) asked
 unfolding crash
 crash_asks regions lawful rest asked is =
-    let words = step_ok (ok_or (crash_words rest) BadLine) _ asked is in
+    let words = bind_ok (ok_or (crash_words rest) BadLine) _ asked is in
     let text = crash_words_are rest words.0 (or_ok (crash_words rest) BadLine words.0 words.1) in
-    let at = step_ok (region regions words.0.0) _ asked words.2 in
+    let at = bind_ok (region regions words.0.0) _ asked words.2 in
     let one = region_is regions lawful words.0.0 at.0 at.1 in
     let same : event.Crash at.0 words.0.1 ≡ asked = cc in
     subst (Asks Play regions (codes "crash " ++ rest)) same record {

@@ -10,6 +10,7 @@ use Rattle.std.proofs.lemmas.Slice.Eq.{bytes_eq-Decides}
 use Rattle.std.proofs.lemmas.Str.{IsUtf8-from_is_utf8, is_utf8-from_IsUtf8, IsUtf8-from_ascii, IsAscii-append}
 use Rattle.std.proofs.lemmas.Fmt.{IsAscii-decimal}
 use Rattle.geo_base.specs.declared.limits.TheConstants.{MAX_REGIONS, SCRIPT_BYTES}
+use Rattle.geo_base.specs.laws.Results.{bind_ok}
 use Rattle.geo_schema.specs.declared.table.TableDef.{TableDef}
 use Rattle.geo_script.specs.declared.fault.ScriptKind.TheVariants.{NotUtf8, BadHeader, BadNumber, TooLong}
 use Rattle.geo_script.specs.declared.script.EventAt.{EventAt}
@@ -31,7 +32,7 @@ use Rattle.geo_script.proofs.Declarations.{head_line_is, head_line_read, begin_d
 use Rattle.geo_script.proofs.EventsRead.{line_read}
 use Rattle.geo_script.proofs.EventsSpelled.{line_asks}
 use Rattle.geo_script.proofs.PlayLines.{IsRegions, number_is}
-use Rattle.geo_script.proofs.Inversions.{step_ok, or_ok, if_ok, when_ok}
+use Rattle.geo_script.proofs.Inversions.{or_ok, if_ok, when_ok}
 use Rattle.geo_script.proofs.Runs.{AreAdmitted, lawful_from, admitted_from}
 
 pub at_ok : {A : Type 0} (line : ℕ) (r : OfLine A) (x : A) → at line r ≡ Ok x → r ≡ Ok x
@@ -68,7 +69,7 @@ head_is after tables (line ∷ lines) head is =
           declared = refl;
         }
     by false other found later =
-        let first = step_ok (at line.0 (table_line tables line.1)) _ head found in
+        let first = bind_ok (at line.0 (table_line tables line.1)) _ head found in
         let here = head_line_is tables line.1 first.0 (at_ok line.0 (table_line tables line.1) first.0 first.1) in
         let rest = later first.0 first.2 in
         record {
@@ -102,9 +103,9 @@ pub events_are : (form : Form) (regions : ℕ) → IsRegions regions → (past :
 events_are form regions lawful past [] [] is = record { typed = tt; admitted = tt }
 events_are form regions lawful past [] (event ∷ events) is = cc
 events_are form regions lawful past (line ∷ lines) events is =
-    let first = step_ok (at line.0 (event_line form regions past line.1)) _ events is in
+    let first = bind_ok (at line.0 (event_line form regions past line.1)) _ events is in
     let here = line_asks form regions lawful past line.1 first.0 (at_ok line.0 (event_line form regions past line.1) first.0 first.1) in
-    let later = step_ok (events_of form regions (next_past form past first.0) lines) _ events first.2 in
+    let later = bind_ok (events_of form regions (next_past form past first.0) lines) _ events first.2 in
     let rest = events_are form regions lawful (next_past form past first.0) lines later.0 later.1 in
     let one : EventAt = record { line = line.0; event = first.0 } in
     let same : one ∷ later.0 ≡ events = cc in
@@ -155,8 +156,8 @@ pub regions_is : (line : List ℕ) (regions : ℕ) → regions_line line ≡ Ok 
 unfolding regions_line regions_word
 regions_is line regions is =
     let text = when_ok (is_utf8 line) _ regions NotUtf8 is in
-    let word = step_ok (ok_or (cut 32 line) BadHeader >>= λ parts. cond (bytes_eq parts.0 (codes "regions") && is_word parts.1) (Ok parts.1) (Err BadHeader)) (number 1 MAX_REGIONS) regions text.1 in
-    let parts = step_ok (ok_or (cut 32 line) BadHeader) _ word.0 word.1 in
+    let word = bind_ok (ok_or (cut 32 line) BadHeader >>= λ parts. cond (bytes_eq parts.0 (codes "regions") && is_word parts.1) (Ok parts.1) (Err BadHeader)) (number 1 MAX_REGIONS) regions text.1 in
+    let parts = bind_ok (ok_or (cut 32 line) BadHeader) _ word.0 word.1 in
     let found = cut_parts 32 line parts.0 (or_ok (cut 32 line) BadHeader parts.0 parts.1) in
     let kept = if_ok (bytes_eq parts.0.0 (codes "regions") && is_word parts.0.1) parts.0.1 word.0 BadHeader parts.2 in
     let same : parts.0.0 ≡ codes "regions" = (bytes_eq-Decides parts.0.0 (codes "regions")).0 (and_parts (bytes_eq parts.0.0 (codes "regions")) (is_word parts.0.1) kept.0).0 in
@@ -183,9 +184,9 @@ body_is : (form : Form) (regions : ℕ) (body : List (List ℕ)) (script : Scrip
     IsScript form (title form ∷ (codes "regions " ++ decimal regions) ∷ body) script
 unfolding body_of
 body_is form regions body script lawful is =
-    let head = step_ok (head_of (3 + length body) [] (spoken_from 3 body)) _ script is in
+    let head = bind_ok (head_of (3 + length body) [] (spoken_from 3 body)) _ script is in
     let tables = head_is (3 + length body) [] (spoken_from 3 body) head.0 head.1 in
-    let events = step_ok (events_of form regions nothing_yet head.0.1) _ script head.2 in
+    let events = bind_ok (events_of form regions nothing_yet head.0.1) _ script head.2 in
     let lines = events_are form regions lawful nothing_yet head.0.1 events.0 events.1 in
     let made : Script = record { regions = regions; schema = head.0.0; events = events.0 } in
     let same : made ≡ script = cc in
@@ -206,11 +207,11 @@ body_is form regions body script lawful is =
 pub lines_are : (form : Form) (lines : List (List ℕ)) (script : Script) → script_of_lines form lines ≡ Ok script → IsScript form lines script
 unfolding script_of_lines
 lines_are form [] script is = cc
-lines_are form (first ∷ []) script is = let one = step_ok (at 1 (title_line form first)) _ script is in cc (one.2)
+lines_are form (first ∷ []) script is = let one = bind_ok (at 1 (title_line form first)) _ script is in cc (one.2)
 lines_are form (first ∷ second ∷ body) script is =
-    let one = step_ok (at 1 (title_line form first)) _ script is in
+    let one = bind_ok (at 1 (title_line form first)) _ script is in
     let title = title_is form first one.0 (at_ok 1 (title_line form first) one.0 one.1) in
-    let two = step_ok (at 2 (regions_line second)) (λ regions. body_of form regions body) script one.2 in
+    let two = bind_ok (at 2 (regions_line second)) (λ regions. body_of form regions body) script one.2 in
     let regions = regions_is second two.0 (at_ok 2 (regions_line second) two.0 two.1) in
     let whole = body_is form two.0 body script regions.lawful two.2 in
     subst (λ ls. IsScript form ls script) (ap (λ l. l ∷ (codes "regions " ++ decimal two.0) ∷ body) (sym title) ∙ ap (λ l. first ∷ l ∷ body) (sym regions.whole)) whole

@@ -8,6 +8,7 @@ use Rattle.std.proofs.lemmas.Bool.{and_parts, eqb-true, eqb-false, not-true}
 use Rattle.std.proofs.lemmas.List.{append_assoc}
 use Rattle.std.proofs.lemmas.Slice.Eq.{bytes_eq-Decides}
 use Rattle.std.proofs.lemmas.Str.{IsUtf8-from_is_utf8, is_utf8-from_IsUtf8}
+use Rattle.geo_base.specs.laws.Results.{failed}
 use Rattle.geo_schema.specs.declared.table.TableDef.{TableDef}
 use Rattle.geo_schema.specs.inner.Schemas.{schema_fault}
 use Rattle.geo_script.specs.declared.fault.ScriptKind.{ScriptKind}
@@ -21,7 +22,7 @@ use Rattle.geo_script.specs.inner.Words.{cut}
 use Rattle.geo_script.specs.Wrongs.{Begins, HasEmptyWord, CanStand, IsWrongDeclaration}
 use Rattle.geo_script.proofs.Cuts.{Lacks, cut_at, cut_nowhere, cut_parts, word_lacks}
 use Rattle.geo_script.proofs.Declarations.{word_read, head_line_is, head_line_read}
-use Rattle.geo_script.proofs.Failures.{step_err, or_err, if_err, when_err, unless_err, no_both}
+use Rattle.geo_script.proofs.Failures.{or_err, if_err, when_err, unless_err, no_both}
 use Rattle.geo_script.proofs.Inversions.{unless_ok}
 use Rattle.geo_script.proofs.WrongHeads.{other_text, no_text, other_bytes, bytes_differ}
 
@@ -108,10 +109,10 @@ empty_on text name rest first (inr (more, is)) = (
 parts_bad : (text : List ℕ) (kind : ScriptKind) → index_parts text ≡ Err kind → (BadIndex ≡ kind) ⊎ ((BadLine ≡ kind) × HasEmptyWord (codes "index " ++ text))
 unfolding index_parts
 parts_bad text kind is =
-    elim (step_err (first_word text) _ kind is) [
+    elim (failed (first_word text) _ kind is) [
       | inl bad ↦ elim (first_bad_word text kind bad) [ inl e ↦ inl e | inr empty ↦ inr (empty.0, empty_name text empty.1) ]
       | inr first ↦
-          elim (step_err (first_word first.0.1) _ kind first.2) [
+          elim (failed (first_word first.0.1) _ kind first.2) [
             | inl bad ↦
                 elim (first_bad_word first.0.1 kind bad) [
                   | inl e ↦ inl e
@@ -125,10 +126,10 @@ index_bad : (tables : List TableDef) (text : List ℕ) (kind : ScriptKind) → w
     (BadIndex ≡ kind) ⊎ ((BadLine ≡ kind) × HasEmptyWord (codes "index " ++ text))
 unfolding with_index
 index_bad tables text kind is =
-    elim (step_err (index_parts text) _ kind is) [
+    elim (failed (index_parts text) _ kind is) [
       | inl bad ↦ parts_bad text kind bad
       | inr parts ↦
-          elim (step_err (ok_or (index_of tables parts.0.0 parts.0.1) BadIndex) _ kind parts.2) [
+          elim (failed (ok_or (index_of tables parts.0.0 parts.0.1) BadIndex) _ kind parts.2) [
             | inl none ↦ inl (or_err (index_of tables parts.0.0 parts.0.1) BadIndex kind none).1
             | inr found ↦
                 let all : List TableDef = add_index tables found.0.0 found.0.1 in
@@ -189,7 +190,7 @@ heading_begins word line (Some parts) is same = inr (parts.1, (cut_parts 32 line
 table_bad : (tables : List TableDef) (text : List ℕ) (kind : ScriptKind) → with_table tables text ≡ Err kind → BadTable ≡ kind
 unfolding with_table
 table_bad tables text kind is =
-    elim (step_err (ok_or (option_and_then table_of (marks_of text)) BadTable) _ kind is) [
+    elim (failed (ok_or (option_and_then table_of (marks_of text)) BadTable) _ kind is) [
       | inl none ↦ (or_err (option_and_then table_of (marks_of text)) BadTable kind none).1
       | inr found ↦
           let all : List TableDef = tables ++ found.0 ∷ [] in

@@ -4,6 +4,7 @@ use Rattle.std.specs.Prelude.{codes}
 use Rattle.std.specs.Option.{ok_or}
 use Rattle.std.proofs.lemmas.Bool.{leb-false, ltb-false}
 use Rattle.geo_base.specs.declared.limits.TheConstants.{PACKETS_PER_LINE, SESSIONS_PER_REGION}
+use Rattle.geo_base.specs.laws.Results.{bind_ok, failed}
 use Rattle.geo_script.specs.declared.event.Event.{Event}
 use Rattle.geo_script.specs.declared.event.Event.TheVariants as event
 use Rattle.geo_script.specs.declared.fault.ScriptKind.{ScriptKind}
@@ -26,9 +27,9 @@ use Rattle.geo_script.proofs.EventWords.{statement_is, statement_read, two_is, t
 use Rattle.geo_script.proofs.EventsRead.{after_read}
 use Rattle.geo_script.proofs.EventsSpelled.{sql_is}
 use Rattle.geo_script.proofs.PlayLines.{IsRegions, Asks, place_is, region_is, sql_asks}
-use Rattle.geo_script.proofs.Failures.{step_err, or_err, option_err, if_err, when_err, unless_err, no_option}
+use Rattle.geo_script.proofs.Failures.{or_err, option_err, if_err, when_err, unless_err, no_option}
 use Rattle.geo_script.proofs.SoFar.{SoFar}
-use Rattle.geo_script.proofs.Inversions.{step_ok, or_ok, when_ok}
+use Rattle.geo_script.proofs.Inversions.{or_ok, when_ok}
 
 -- ---- numbers
 
@@ -38,12 +39,12 @@ number_bad least most word kind is = (or_err (number_within least most word) Bad
 number_err : {B : Type 0} (least most : ℕ) (word : List ℕ) (next : ℕ → OfLine B) (kind : ScriptKind) → (number least most word >>= next) ≡ Err kind →
     (BadNumber ≡ kind) ⊎ ((n : ℕ) × (next n ≡ Err kind))
 number_err least most word next kind is =
-    elim (step_err (number least most word) next kind is) [ inl bad ↦ inl (number_bad least most word kind bad) | inr found ↦ inr (found.0, found.2) ]
+    elim (failed (number least most word) next kind is) [ inl bad ↦ inl (number_bad least most word kind bad) | inr found ↦ inr (found.0, found.2) ]
 
 place_bad : (regions : ℕ) (word : List ℕ) (kind : ScriptKind) → place regions word ≡ Err kind → BadNumber ≡ kind
 unfolding place
 place_bad regions word kind is =
-    elim (step_err (ok_or (cut 46 word) BadNumber) _ kind is) [
+    elim (failed (ok_or (cut 46 word) BadNumber) _ kind is) [
       | inl none ↦ (or_err (cut 46 word) BadNumber kind none).1
       | inr cuts ↦
           elim (number_err 0 (regions - 1) cuts.0.0 _ kind cuts.2) [
@@ -63,13 +64,13 @@ unfolding outcome
 outcome_fails regions rest kind is =
     elim (when_err (is_word rest) _ BadLine kind is) [
       | inl other ↦ inl (other.1, λ word. cc (other.0))
-      | inr word ↦ inr (word.0, elim (step_err (place regions rest) _ kind word.1) [ inl bad ↦ place_bad regions rest kind bad | inr found ↦ cc (found.2) ])
+      | inr word ↦ inr (word.0, elim (failed (place regions rest) _ kind word.1) [ inl bad ↦ place_bad regions rest kind bad | inr found ↦ cc (found.2) ])
     ]
 
 only_fails : (regions : ℕ) (rest : List ℕ) (next : ℕ → Event) (kind : ScriptKind) → (only_region regions rest >>= λ at. Ok (next at)) ≡ Err kind → WordsFail (IsWord rest) kind
 unfolding only_region
 only_fails regions rest next kind is =
-    elim (step_err (only_region regions rest) _ kind is) [
+    elim (failed (only_region regions rest) _ kind is) [
       | inl bad ↦
           elim (when_err (is_word rest) _ BadLine kind bad) [
             | inl other ↦ inl (other.1, λ word. cc (other.0))
@@ -167,7 +168,7 @@ sql_fails form regions lawful events rest kind is =
     elim (option_err (statement_parts rest) BadLine _ kind is) [
       | inl none ↦ inl (none.1, λ has. no_option (statement_parts rest) (has.place, has.text) none.0 (statement_read rest has))
       | inr parts ↦
-          elim (step_err (place regions parts.0.0) _ kind parts.2) [
+          elim (failed (place regions parts.0.0) _ kind parts.2) [
             | inl bad ↦ inr (statement_is rest parts.0 parts.1, inl (place_bad regions parts.0.0 kind bad))
             | inr at ↦
                 let spelled = place_is regions lawful parts.0.0 at.0 at.1 in
@@ -216,7 +217,7 @@ left_out past at session text kind is = by (has_session past at session) refl (n
 statement_ok : (regions : ℕ) (rest : List ℕ) (found : Event) → sql regions rest ≡ Ok found → HasStatement rest
 unfolding sql
 statement_ok regions rest found is =
-    let parts = step_ok (ok_or (statement_parts rest) BadLine) _ found is in
+    let parts = bind_ok (ok_or (statement_parts rest) BadLine) _ found is in
     statement_is rest parts.0 (or_ok (statement_parts rest) BadLine parts.0 parts.1)
 
 one_more : (regions : ℕ) (far : SoFar Run) (line : List ℕ) (at session : ℕ) (text : List ℕ) (kind : ScriptKind) → Asks Run regions line (event.Sql at session text) → IsLeftOut far.past at session kind →
@@ -231,7 +232,7 @@ one_more regions far line at session text kind asks out =
 run_sql_fails : (regions : ℕ) → IsRegions regions → (far : SoFar Run) (rest : List ℕ) (kind : ScriptKind) → (sql regions rest >>= if_admitted far.past) ≡ Err kind →
     LineFails Run regions far.events (HasStatement rest) (codes "sql " ++ rest) kind
 run_sql_fails regions lawful far rest kind is =
-    elim (step_err (sql regions rest) (if_admitted far.past) kind is) [
+    elim (failed (sql regions rest) (if_admitted far.past) kind is) [
       | inl bad ↦ sql_fails Run regions lawful far.events rest kind bad
       | inr found ↦
           let sql' = sql_is regions rest found.0 found.1 in
@@ -261,7 +262,7 @@ crash_after_fails regions lawful far rest kind is =
           let has = after_is rest words.0 words.1 in
           inr (
             has,
-            elim (step_err (fresh_region far.past (region regions words.0.0)) _ kind words.2) [
+            elim (failed (fresh_region far.past (region regions words.0.0)) _ kind words.2) [
               | inl bad ↦ by has words.0 words.1 (fresh_fails regions far.past words.0.0 kind bad)
               | inr at ↦ elim (number_err 1 LAST_CRASH_EPOCH words.0.1 _ kind at.2) [ inl e ↦ inl e | inr epoch ↦ cc (epoch.1) ]
             ],
@@ -315,11 +316,11 @@ form_fails Run regions lawful far verb.Restart rest kind is = inl (cc, λ none. 
 -- ---- what is read has its words
 
 read_ok : {A : Type 0} (o : Option A) (next : A → OfLine Event) (asked : Event) → (ok_or o BadLine >>= next) ≡ Ok asked → (x : A) × (o ≡ Some x)
-read_ok o next asked is = let found = step_ok (ok_or o BadLine) next asked is in (found.0, or_ok o BadLine found.0 found.1)
+read_ok o next asked is = let found = bind_ok (ok_or o BadLine) next asked is in (found.0, or_ok o BadLine found.0 found.1)
 
 only_behind : (regions : ℕ) (rest : List ℕ) (next : ℕ → Event) (asked : Event) → (only_region regions rest >>= λ at. Ok (next at)) ≡ Ok asked → IsWord rest
 unfolding only_region
-only_behind regions rest next asked is = let at = step_ok (only_region regions rest) _ asked is in (when_ok (is_word rest) _ at.0 BadLine at.1).0
+only_behind regions rest next asked is = let at = bind_ok (only_region regions rest) _ asked is in (when_ok (is_word rest) _ at.0 BadLine at.1).0
 
 play_behind : (regions : ℕ) (verb : Verb) (rest : List ℕ) (asked : Event) → play_event regions verb rest ≡ Ok asked → HasWordsBehind Play verb rest
 unfolding play_event outcome deliver fetch work crash
@@ -336,7 +337,7 @@ play_behind regions verb.Restart rest asked is = only_behind regions rest event.
 
 run_behind : (regions : ℕ) (past : RunPast) (verb : Verb) (rest : List ℕ) (asked : Event) → run_event regions past verb rest ≡ Ok asked → HasWordsBehind Run verb rest
 unfolding run_event crash_after
-run_behind regions past verb.Sql rest asked is = let found = step_ok (sql regions rest) (if_admitted past) asked is in statement_ok regions rest found.0 found.1
+run_behind regions past verb.Sql rest asked is = let found = bind_ok (sql regions rest) (if_admitted past) asked is in statement_ok regions rest found.0 found.1
 run_behind regions past verb.Crash rest asked is = let words = read_ok (after_words rest) _ asked is in after_is rest words.0 words.1
 run_behind regions past verb.Outcome rest asked is = cc
 run_behind regions past verb.Seal rest asked is = cc

@@ -7,6 +7,7 @@ use Rattle.std.proofs.lemmas.Bool.{and_parts, false_from_ne_true, false≢true}
 use Rattle.std.proofs.lemmas.Slice.Eq.{bytes_eq-Decides}
 use Rattle.std.proofs.lemmas.Str.{IsUtf8-from_is_utf8, is_utf8-from_IsUtf8}
 use Rattle.geo_base.specs.declared.limits.TheConstants.{MAX_REGIONS}
+use Rattle.geo_base.specs.laws.Results.{bind_ok, failed}
 use Rattle.geo_script.specs.declared.fault.ScriptKind.{ScriptKind}
 use Rattle.geo_script.specs.declared.fault.ScriptKind.TheVariants.{NotUtf8, BadHeader, BadNumber}
 use Rattle.geo_script.specs.declared.script.Form.{Form}
@@ -19,8 +20,8 @@ use Rattle.geo_script.specs.Words.{is_word}
 use Rattle.geo_script.specs.Wrongs.{IsWrongTitle, HasCount, CountsRegions, IsWrongCount}
 use Rattle.geo_script.proofs.Cuts.{cut_at, cut_parts}
 use Rattle.geo_script.proofs.PlayLines.{number_is}
-use Rattle.geo_script.proofs.Failures.{step_err, or_err, if_err, when_err, no_both}
-use Rattle.geo_script.proofs.Inversions.{step_ok, or_ok, if_ok}
+use Rattle.geo_script.proofs.Failures.{or_err, if_err, when_err, no_both}
+use Rattle.geo_script.proofs.Inversions.{or_ok, if_ok}
 use Rattle.geo_script.proofs.ScriptLines.{regions_read}
 
 pub other_text : (line : List ℕ) → (IsUtf8 line → ⊥) → is_utf8 line ≡ false
@@ -62,7 +63,7 @@ count_word line count = rw (count.2) (rw (cut_at 32 (codes "regions") count.0 re
 word_counted : (line word : List ℕ) → regions_word line ≡ Ok word → HasCount line
 unfolding regions_word
 word_counted line word is =
-    let parts = step_ok (ok_or (cut 32 line) BadHeader) _ word is in
+    let parts = bind_ok (ok_or (cut 32 line) BadHeader) _ word is in
     let found = cut_parts 32 line parts.0 (or_ok (cut 32 line) BadHeader parts.0 parts.1) in
     let kept = if_ok (bytes_eq parts.0.0 (codes "regions") && is_word parts.0.1) parts.0.1 word BadHeader parts.2 in
     let tests = and_parts (bytes_eq parts.0.0 (codes "regions")) (is_word parts.0.1) kept.0 in
@@ -72,7 +73,7 @@ word_counted line word is =
 word_bad : (line : List ℕ) (kind : ScriptKind) → regions_word line ≡ Err kind → BadHeader ≡ kind
 unfolding regions_word
 word_bad line kind is =
-    elim (step_err (ok_or (cut 32 line) BadHeader) _ kind is) [
+    elim (failed (ok_or (cut 32 line) BadHeader) _ kind is) [
       | inl none ↦ (or_err (cut 32 line) BadHeader kind none).1
       | inr found ↦ (if_err (bytes_eq found.0.0 (codes "regions") && is_word found.0.1) found.0.1 BadHeader kind found.2).1
     ]
@@ -89,7 +90,7 @@ count_wrong line kind is =
     elim (when_err (is_utf8 line) _ NotUtf8 kind is) [
       | inl other' ↦ subst (IsWrongCount line) other'.1 (no_text line other'.0)
       | inr text ↦
-          elim (step_err (regions_word line) _ kind text.1) [
+          elim (failed (regions_word line) _ kind text.1) [
             | inl none ↦
                 subst (IsWrongCount line) (word_bad line kind none)
                 (IsUtf8-from_is_utf8 line text.0, λ (count : HasCount line). no_both (regions_word line) count.0 kind (count_word line count) none)

@@ -7,6 +7,7 @@ use Rattle.std.specs.Str.{is_utf8}
 use Rattle.std.proofs.lemmas.Bool.{cases_lt, lt-leb, le-ltb, ne_eqb}
 use Rattle.std.proofs.lemmas.Str.{IsUtf8-from_is_utf8, is_utf8-from_IsUtf8}
 use Rattle.geo_base.specs.declared.limits.TheConstants.{SESSIONS_PER_REGION}
+use Rattle.geo_base.specs.laws.Results.{bind_ok}
 use Rattle.geo_script.specs.declared.event.Event.{Event}
 use Rattle.geo_script.specs.declared.event.Event.TheVariants as event
 use Rattle.geo_script.specs.declared.fault.ScriptKind.{ScriptKind}
@@ -28,7 +29,7 @@ use Rattle.geo_script.proofs.Decimals.{decimal_word}
 use Rattle.geo_script.proofs.EventsRead.{at_word, place_word, place_read, region_read, after_read, sql_read, line_read}
 use Rattle.geo_script.proofs.EventsSpelled.{line_asks}
 use Rattle.geo_script.proofs.Failures.{option_err, when_err, no_both, no_option, err_same}
-use Rattle.geo_script.proofs.Inversions.{step_ok, or_ok}
+use Rattle.geo_script.proofs.Inversions.{or_ok}
 use Rattle.geo_script.proofs.PlayLines.{IsRegions}
 use Rattle.geo_script.proofs.SoFar.{SoFar}
 use Rattle.geo_script.proofs.VerbTexts.{behind_verb, verb_parts}
@@ -212,7 +213,7 @@ not_read form regions past line other = rw other refl
 words_read : (form : Form) (regions : ℕ) (past : RunPast) (line : List ℕ) (asked : Event) → event_of form regions past line ≡ Ok asked → HasWords form line
 unfolding event_of
 words_read form regions past line asked is =
-    let parts = step_ok (ok_or (verb_and_rest line) BadLine) _ asked is in
+    let parts = bind_ok (ok_or (verb_and_rest line) BadLine) _ asked is in
     let found = or_ok (verb_and_rest line) BadLine parts.0 parts.1 in
     record { verb = parts.0.0; rest = parts.0.1; whole = verb_parts line parts.0 found; behind = words_behind form regions past parts.0.0 parts.0.1 asked parts.2 }
 

@@ -21,7 +21,7 @@ mod verb;
 mod word;
 
 pub use event::{Event, Sealing};
-pub use fault::{ScriptRefusal, ScriptFault, ScriptKind};
+pub use fault::{ScriptFault, ScriptKind, ScriptRefusal};
 pub use laws::{
     a_text_is_of_one_script_or_has_one_fault, faults_are_first_bad_lines, scripts_are_their_texts,
 };

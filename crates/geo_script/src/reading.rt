@@ -22,7 +22,7 @@ mod listed;
 mod table;
 mod words;
 
-use crate::fault::{ScriptRefusal, ScriptKind, bad};
+use crate::fault::{ScriptKind, ScriptRefusal, bad};
 use crate::script::{Form, Script};
 use declared::read_tables;
 use events::read_events;

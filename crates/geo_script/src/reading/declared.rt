@@ -6,7 +6,7 @@ ghost use Rattle.geo_script.specs.inner.Answers.{Answers, spoken, number_after};
 ghost use Rattle.geo_script.specs.inner.Scripts.{head_of};
 ghost use Rattle.geo_script.specs.inner.TableLines as spec;
 
-use crate::fault::{ScriptRefusal, ScriptKind, bad};
+use crate::fault::{ScriptKind, ScriptRefusal, bad};
 use crate::reading::index::with_index;
 use crate::reading::lines::{Rest, next_spoken, text_of};
 use crate::reading::table::with_table;
@@ -82,7 +82,10 @@ fn is_begin(line: &[u8]) -> bool
 }
 
 /// The tables of all lines up to `begin`, and the rest behind that line.
-pub(crate) fn read_tables(alloc: Global, rest: Rest<'_>) -> Result<(Vec<TableDef>, Rest<'_>), ScriptRefusal>
+pub(crate) fn read_tables(
+    alloc: Global,
+    rest: Rest<'_>,
+) -> Result<(Vec<TableDef>, Rest<'_>), ScriptRefusal>
     requires { rest.number + length rest.bytes.now < 2 ^ 32 }
     ensures head { Answers (λ head. (head.0.items, spoken head.1)) result (head_of (number_after rest.entry) [] (spoken rest.entry)) }
     ensures schema { IfOk result (λ head. IsSchema head.0.items) }

@@ -67,7 +67,11 @@ fn sql_parts(regions: u8, rest: &str) -> Result<(RegionNo, u8, &str), ScriptKind
 }
 
 /// A statement, behind `sql`. Its text is the one part of a line that is copied.
-pub(crate) fn sql(alloc: Global, regions: u8, rest: &str) -> Result<Result<Event, ScriptKind>, NoMemory>
+pub(crate) fn sql(
+    alloc: Global,
+    regions: u8,
+    rest: &str,
+) -> Result<Result<Event, ScriptKind>, NoMemory>
     requires { 1 ≤ regions }
     ensures { IfOk result (λ found. found ≡ spec.sql regions rest.now) }
 {

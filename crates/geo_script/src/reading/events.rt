@@ -8,7 +8,7 @@ ghost use Rattle.geo_script.specs.inner.Past.{nothing_yet};
 ghost use Rattle.geo_script.specs.inner.Scripts.{events_of};
 
 use crate::event::Event;
-use crate::fault::{ScriptRefusal, ScriptKind, bad};
+use crate::fault::{ScriptKind, ScriptRefusal, bad};
 use crate::limits::SESSIONS_PER_RUN;
 use crate::past::Past;
 use crate::reading::event_line::{

@@ -5,7 +5,7 @@ ghost use Rattle.geo_script.specs.inner.Answers.{Answers, spoken, number_after};
 ghost use Rattle.geo_script.specs.Spelling.{title};
 ghost use Rattle.geo_script.specs.inner.Scripts as spec;
 
-use crate::fault::{ScriptRefusal, ScriptFault, ScriptKind};
+use crate::fault::{ScriptFault, ScriptKind, ScriptRefusal};
 use crate::reading::event_line::number;
 use crate::reading::lines::{Rest, next_spoken, text_of};
 use crate::reading::words::{cut_at_space, is_word};
