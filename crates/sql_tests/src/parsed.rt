@@ -2,7 +2,7 @@
 use geo_base::{Duplicate, NoMemory};
 use sql_ast::{Statement, print};
 use sql_parse::{ParseFault, parse};
-use std::alloc::Global;
+use std::alloc::{AllocError, Global};
 
 // The texts of these tests have fewer bytes.
 const MOST_BYTES: usize = 100_000;
@@ -48,6 +48,18 @@ fn printed(alloc: Global, text: &str) -> Result<String, ParseFault> {
 /// Why the text is no statement, if it is none.
 pub fn fault_of(alloc: Global, text: &str) -> Option<ParseFault> {
     printed(alloc, text).err()
+}
+
+/// The text is no statement for this reason, as it is written in Rust.
+pub fn has_fault(alloc: Global, text: &str, wanted: &str) -> bool {
+    match fault_of(alloc, text) {
+        Some(fault) => is_written(alloc, fault, wanted) == Ok(true),
+        None => false,
+    }
+}
+
+fn is_written(alloc: Global, fault: ParseFault, wanted: &str) -> Result<bool, AllocError> {
+    Ok(format!(in alloc; "{fault:?}")?.as_str() == wanted)
 }
 
 // The text is a statement with this canonical text.
