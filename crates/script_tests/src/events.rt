@@ -1,7 +1,7 @@
 //! The lines of events.
-use crate::reading::{bad, read_lines, script_of};
+use crate::reading::{is_bad, read_lines, script_of};
 use crate::seen::{Seen, is_seen};
-use geo_script::{Form, ScriptKind};
+use geo_script::Form;
 use std::alloc::Global;
 use std::test::Fail;
 
@@ -181,72 +181,56 @@ const BAD_NUMBERS: [&[u8]; 42] = [
 
 #[test]
 fn lines_of_plays_that_are_bad(rt: HostRuntime) -> Result<(), Fail> {
-    let kinds: [(ScriptKind, &[&[u8]]); 3] = [
-        (ScriptKind::NotUtf8, &NOT_UTF8),
-        (ScriptKind::BadLine, &BAD_LINES),
-        (ScriptKind::BadNumber, &BAD_NUMBERS),
+    let kinds: [(&str, &[&[u8]]); 3] = [
+        ("NotUtf8", &NOT_UTF8),
+        ("BadLine", &BAD_LINES),
+        ("BadNumber", &BAD_NUMBERS),
     ];
     for (kind, rows) in kinds {
         for line in rows {
             let found = read_lines(rt.alloc(), Form::Play, line);
-            assert!(rt; found == bad(5, kind), "{line:?}");
+            assert!(rt; is_bad(rt.alloc(), found, 5, kind)?, "{line:?}");
         }
     }
     Ok(())
 }
 
 // Lines of runs, the number of the first bad one, and what is wrong with it.
-const BAD_RUNS: [(&[u8], u32, ScriptKind); 23] = [
-    (b"vacuum\nsql 0.0 \xff", 5, ScriptKind::BadLine),
-    (
-        b"sql 0.0 x\nsql 3.0 x\nvacuum\nsql 0.0 x",
-        6,
-        ScriptKind::BadNumber,
-    ),
-    (b"seal 0", 5, ScriptKind::BadLine),
-    (b"outcome 0.0", 5, ScriptKind::BadLine),
-    (b"deliver 0", 5, ScriptKind::BadLine),
-    (b"fetch 0 1 1", 5, ScriptKind::BadLine),
-    (b"work 0 0", 5, ScriptKind::BadLine),
-    (b"publish 0", 5, ScriptKind::BadLine),
-    (b"show 0", 5, ScriptKind::BadLine),
-    (b"restart 0", 5, ScriptKind::BadLine),
-    (b"crash 0", 5, ScriptKind::BadLine),
-    (b"crash 0 sealing kept", 5, ScriptKind::BadLine),
-    (b"crash 0 after", 5, ScriptKind::BadLine),
-    (b"crash 0 after 0", 5, ScriptKind::BadNumber),
-    (b"crash 0 after 1001", 5, ScriptKind::BadNumber),
-    (b"crash 3 after 1", 5, ScriptKind::BadNumber),
+const BAD_RUNS: [(&[u8], u32, &str); 23] = [
+    (b"vacuum\nsql 0.0 \xff", 5, "BadLine"),
+    (b"sql 0.0 x\nsql 3.0 x\nvacuum\nsql 0.0 x", 6, "BadNumber"),
+    (b"seal 0", 5, "BadLine"),
+    (b"outcome 0.0", 5, "BadLine"),
+    (b"deliver 0", 5, "BadLine"),
+    (b"fetch 0 1 1", 5, "BadLine"),
+    (b"work 0 0", 5, "BadLine"),
+    (b"publish 0", 5, "BadLine"),
+    (b"show 0", 5, "BadLine"),
+    (b"restart 0", 5, "BadLine"),
+    (b"crash 0", 5, "BadLine"),
+    (b"crash 0 sealing kept", 5, "BadLine"),
+    (b"crash 0 after", 5, "BadLine"),
+    (b"crash 0 after 0", 5, "BadNumber"),
+    (b"crash 0 after 1001", 5, "BadNumber"),
+    (b"crash 3 after 1", 5, "BadNumber"),
     (
         b"crash 0 after 1\n\ncrash 1 after 1\ncrash 0 after 2",
         8,
-        ScriptKind::BadLine,
+        "BadLine",
     ),
-    (
-        b"crash 0 after 1\ncrash 0 after 2000",
-        6,
-        ScriptKind::BadLine,
-    ),
-    (
-        b"crash 0 after 1\ncrash 00 after 2",
-        6,
-        ScriptKind::BadNumber,
-    ),
-    (
-        b"crash 0 after 1\ncrash 3 after 2000",
-        6,
-        ScriptKind::BadNumber,
-    ),
-    (b"sql 0.0", 5, ScriptKind::BadLine),
-    (b"sql 0.64 x", 5, ScriptKind::BadNumber),
-    (b"sql 3.0 x", 5, ScriptKind::BadNumber),
+    (b"crash 0 after 1\ncrash 0 after 2000", 6, "BadLine"),
+    (b"crash 0 after 1\ncrash 00 after 2", 6, "BadNumber"),
+    (b"crash 0 after 1\ncrash 3 after 2000", 6, "BadNumber"),
+    (b"sql 0.0", 5, "BadLine"),
+    (b"sql 0.64 x", 5, "BadNumber"),
+    (b"sql 3.0 x", 5, "BadNumber"),
 ];
 
 #[test]
 fn lines_of_runs_that_are_bad(rt: HostRuntime) -> Result<(), Fail> {
     for (lines, line, kind) in BAD_RUNS {
         let found = read_lines(rt.alloc(), Form::Run, lines);
-        assert!(rt; found == bad(line, kind), "{lines:?}");
+        assert!(rt; is_bad(rt.alloc(), found, line, kind)?, "{lines:?}");
     }
     Ok(())
 }

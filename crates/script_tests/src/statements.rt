@@ -1,6 +1,6 @@
 //! Lines and statements that are long, and sessions that are too many.
-use crate::reading::{bad, joined, read_lines};
-use geo_script::{Form, ReadFault, ScriptKind};
+use crate::reading::{Refusal, is_told, joined, read_lines};
+use geo_script::Form;
 use std::alloc::{AllocError, Global};
 use std::test::Fail;
 
@@ -14,36 +14,29 @@ fn text_of(alloc: Global, (front, letter, count): Long) -> Result<String, AllocE
 }
 
 // The line, behind a head of four lines.
-fn read_line(alloc: Global, line: Long) -> Result<(), ReadFault> {
+fn read_line(alloc: Global, line: Long) -> Result<(), Refusal> {
     let line = text_of(alloc, line)?;
     read_lines(alloc, Form::Play, line.as_bytes())
 }
 
 // A line, and what is wrong with it.
-const LINES: [(Long, Option<ScriptKind>); 9] = [
-    (("sql 0.0 ", "x", 16_377), None),
-    (("#", "x", 16_384), None),
-    (("#", "x", 100_000), None),
-    (("sql 0.0 ", "x", 16_384), None),
-    (("sql 0.0 ", "x", 16_385), Some(ScriptKind::LongStatement)),
-    (("sql 0.0 ", "é", 8_192), None),
-    (("sql 0.0 x", "é", 8_192), Some(ScriptKind::LongStatement)),
-    (("sql 0.64 ", "x", 16_385), Some(ScriptKind::BadNumber)),
-    (("seal ", "0", 16_385), Some(ScriptKind::BadNumber)),
+const LINES: [(Long, &str); 9] = [
+    (("sql 0.0 ", "x", 16_377), "fits"),
+    (("#", "x", 16_384), "fits"),
+    (("#", "x", 100_000), "fits"),
+    (("sql 0.0 ", "x", 16_384), "fits"),
+    (("sql 0.0 ", "x", 16_385), "LongStatement"),
+    (("sql 0.0 ", "é", 8_192), "fits"),
+    (("sql 0.0 x", "é", 8_192), "LongStatement"),
+    (("sql 0.64 ", "x", 16_385), "BadNumber"),
+    (("seal ", "0", 16_385), "BadNumber"),
 ];
-
-fn answer(line: u32, kind: Option<ScriptKind>) -> Result<(), ReadFault> {
-    match kind {
-        Some(kind) => bad(line, kind),
-        None => Ok(()),
-    }
-}
 
 #[test]
 fn long_lines(rt: HostRuntime) -> Result<(), Fail> {
     for (line, kind) in LINES {
         let found = read_line(rt.alloc(), line);
-        assert!(rt; found == answer(5, kind), "{line:?}");
+        assert!(rt; is_told(rt.alloc(), found, 5, kind)?, "{line:?}");
     }
     Ok(())
 }
@@ -58,7 +51,8 @@ fn sessions(alloc: Global) -> Result<Vec<u8>, AllocError> {
     Ok(lines)
 }
 
-fn read_behind(alloc: Global, form: Form, last: Long) -> Result<(), ReadFault> {
+fn read_behind(alloc: Global, form: &str, last: Long) -> Result<(), Refusal> {
+    let form = if form == "run" { Form::Run } else { Form::Play };
     let lines = sessions(alloc)?;
     let last = text_of(alloc, last)?;
     let lines = joined(alloc, &lines, last.as_bytes())?;
@@ -66,37 +60,21 @@ fn read_behind(alloc: Global, form: Form, last: Long) -> Result<(), ReadFault> {
 }
 
 // A line behind the 64 sessions of region 0, and what is wrong with it.
-const LAST: [(Form, Long, Option<ScriptKind>); 7] = [
-    (Form::Run, ("sql 0.63 y", "", 0), None),
-    (
-        Form::Run,
-        ("sql 1.0 y", "", 0),
-        Some(ScriptKind::TooManySessions),
-    ),
-    (
-        Form::Run,
-        ("sql 1.0 ", "y", 16_385),
-        Some(ScriptKind::LongStatement),
-    ),
-    (Form::Run, ("crash 0 after 1", "", 0), None),
-    (
-        Form::Run,
-        ("sql 1.64 y", "", 0),
-        Some(ScriptKind::BadNumber),
-    ),
-    (
-        Form::Run,
-        ("sql 0.64 y", "", 0),
-        Some(ScriptKind::BadNumber),
-    ),
-    (Form::Play, ("sql 1.0 y", "", 0), None),
+const LAST: [(&str, Long, &str); 7] = [
+    ("run", ("sql 0.63 y", "", 0), "fits"),
+    ("run", ("sql 1.0 y", "", 0), "TooManySessions"),
+    ("run", ("sql 1.0 ", "y", 16_385), "LongStatement"),
+    ("run", ("crash 0 after 1", "", 0), "fits"),
+    ("run", ("sql 1.64 y", "", 0), "BadNumber"),
+    ("run", ("sql 0.64 y", "", 0), "BadNumber"),
+    ("play", ("sql 1.0 y", "", 0), "fits"),
 ];
 
 #[test]
 fn sessions_of_runs(rt: HostRuntime) -> Result<(), Fail> {
     for (form, last, kind) in LAST {
         let found = read_behind(rt.alloc(), form, last);
-        assert!(rt; found == answer(69, kind), "{last:?}");
+        assert!(rt; is_told(rt.alloc(), found, 69, kind)?, "{last:?}");
     }
     Ok(())
 }

@@ -1,6 +1,6 @@
 //! Lines that declare tables and indexes.
-use crate::reading::{bad, joined, read};
-use geo_script::{Form, ReadFault, ScriptKind};
+use crate::reading::{Refusal, is_bad, is_told, joined, read};
+use geo_script::Form;
 use std::alloc::{AllocError, Global};
 use std::test::Fail;
 
@@ -8,7 +8,7 @@ const HEAD: &[u8] =
     b"geogauss run 1\nregions 1\ntable a (k INT KEY, v TEXT)\ntable b (k INT KEY)\n";
 
 // Whether the lines, of which the first is line 5 behind two tables, are those of a head.
-fn declare(alloc: Global, lines: &[u8]) -> Result<(), ReadFault> {
+fn declare(alloc: Global, lines: &[u8]) -> Result<(), Refusal> {
     let text = joined(alloc, HEAD, lines)?;
     let text = joined(alloc, &text, b"\nbegin\n")?;
     read(alloc, Form::Run, &text)
@@ -105,16 +105,16 @@ const NOT_UTF8: [&[u8]; 3] = [b"table c (\xc3 INT KEY)", b"table \xff", b"index 
 
 #[test]
 fn tables_and_indexes_that_are_bad(rt: HostRuntime) -> Result<(), Fail> {
-    let kinds: [(ScriptKind, &[&[u8]]); 4] = [
-        (ScriptKind::BadTable, &BAD_TABLES),
-        (ScriptKind::BadIndex, &BAD_INDEXES),
-        (ScriptKind::BadLine, &BAD_LINES),
-        (ScriptKind::NotUtf8, &NOT_UTF8),
+    let kinds: [(&str, &[&[u8]]); 4] = [
+        ("BadTable", &BAD_TABLES),
+        ("BadIndex", &BAD_INDEXES),
+        ("BadLine", &BAD_LINES),
+        ("NotUtf8", &NOT_UTF8),
     ];
     for (kind, rows) in kinds {
         for line in rows {
             let found = declare(rt.alloc(), line);
-            assert!(rt; found == bad(5, kind), "{line:?}");
+            assert!(rt; is_bad(rt.alloc(), found, 5, kind)?, "{line:?}");
         }
     }
     Ok(())
@@ -122,26 +122,22 @@ fn tables_and_indexes_that_are_bad(rt: HostRuntime) -> Result<(), Fail> {
 
 // Lines of which a later one is bad: one column of an index and one index too many, and an index and a table that
 // are declared twice.
-const LATER: [(&[u8], u32, ScriptKind); 4] = [
+const LATER: [(&[u8], u32, &str); 4] = [
     (
         b"table c (k INT KEY, l INT, m INT, n INT, o INT)\nindex i on c (k, l, m, n, o)",
         6,
-        ScriptKind::BadIndex,
+        "BadIndex",
     ),
     (
         b"index f on a (k)\nindex g on a (k)\nindex h on a (k)\nindex i on a (k)\nindex j on a (k)",
         9,
-        ScriptKind::BadIndex,
+        "BadIndex",
     ),
-    (
-        b"index i on a (k)\nindex i on a (v)",
-        6,
-        ScriptKind::BadIndex,
-    ),
+    (b"index i on a (k)\nindex i on a (v)", 6, "BadIndex"),
     (
         b"table c (k INT KEY)\n\n# c\ntable c (k INT KEY)",
         8,
-        ScriptKind::BadTable,
+        "BadTable",
     ),
 ];
 
@@ -149,7 +145,7 @@ const LATER: [(&[u8], u32, ScriptKind); 4] = [
 fn later_lines_that_are_bad(rt: HostRuntime) -> Result<(), Fail> {
     for (lines, line, kind) in LATER {
         let found = declare(rt.alloc(), lines);
-        assert!(rt; found == bad(line, kind), "{lines:?}");
+        assert!(rt; is_bad(rt.alloc(), found, line, kind)?, "{lines:?}");
     }
     Ok(())
 }
@@ -164,15 +160,16 @@ fn tables(alloc: Global, count: u8) -> Result<Vec<u8>, AllocError> {
     Ok(lines)
 }
 
-fn declare_tables(alloc: Global, count: u8) -> Result<(), ReadFault> {
+fn declare_tables(alloc: Global, count: u8) -> Result<(), Refusal> {
     let lines = tables(alloc, count)?;
     declare(alloc, &lines)
 }
 
 #[test]
 fn tables_are_64_at_most(rt: HostRuntime) -> Result<(), Fail> {
-    for (count, wanted) in [(62, Ok(())), (63, bad(67, ScriptKind::BadTable))] {
-        assert!(rt; declare_tables(rt.alloc(), count) == wanted, "{count}");
+    for (count, wanted) in [(62, "fits"), (63, "BadTable")] {
+        let found = declare_tables(rt.alloc(), count);
+        assert!(rt; is_told(rt.alloc(), found, 67, wanted)?, "{count}");
     }
     Ok(())
 }

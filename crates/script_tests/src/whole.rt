@@ -1,8 +1,9 @@
 //! A whole script: its regions, its tables with their columns, keys and indexes, and its events.
+use crate::reading::Refusal;
 use crate::seen::{Seen, is_seen};
 use geo_base::{Duplicate, NoMemory};
 use geo_schema::{ColumnDef, IndexDef, Kind, Schema, TableDef};
-use geo_script::{EventAt, Form, ReadFault, Script, read_script};
+use geo_script::{EventAt, Form, Script, read_script};
 use std::alloc::Global;
 use std::test::Fail;
 
@@ -134,7 +135,7 @@ fn are_events(found: &[EventAt]) -> bool {
     found.len() == EVENTS.len()
 }
 
-fn script(alloc: Global) -> Result<Script, ReadFault> {
+fn script(alloc: Global) -> Result<Script, Refusal> {
     let mut text = Vec::new(alloc);
     for line in LINES {
         text.extend_from_slice(line.as_bytes())?;
