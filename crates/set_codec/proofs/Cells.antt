@@ -19,4 +19,3 @@ module _ (bytes : List ℕ) (at : ℕ) where
 
   pub cell_fails : (e : CellReadFault) → ((e ≡ of_cell.NoMemory) ⊎ IsFaultAt bytes at e) → Fails NoMemory (fault_of e) (lifted (cell_at bytes at))
   cell_fails e h = elim h [ inl c ↦ inl (ap fault_of c) | inr c ↦ inr (ap lifted ((cell_tells bytes at).refused e c)) ]
-

@@ -33,7 +33,7 @@ key_is_whole table bytes at next cells rules fits e =
     let s = (key_tells bytes table at).found fits (cells, next) e in
     let count : length cells ≡ length table.key = s.0 in
     let none : position is_null cells ≡ None = none_found is_null cells cell.Null (λ k lt.
-      not_null table.key _ (get_or table.key (0 + k) 0) (get_or cells k cell.Null) (subst (λ (n : ℕ). is_in table.key (get_or table.key n 0) ≡ true) (sym (zero-add k)) (in_itself table.key k (omega (arith, lt, count)))) (taken_of [] table (λ i. get_or table.key i 0) 0 cells k s.1.taken lt)) in
+    not_null table.key _ (get_or table.key (0 + k) 0) (get_or cells k cell.Null) (subst (λ (n : ℕ). is_in table.key (get_or table.key n 0) ≡ true) (sym (zero-add k)) (in_itself table.key k (omega (arith, lt, count)))) (taken_of [] table (λ i. get_or table.key i 0) 0 cells k s.1.taken lt)) in
     let some : 1 ≤ length cells = omega (arith, rules.key.some, count) in
     let few : length cells ≤ MAX_KEY_CELLS = omega (arith, rules.key.few, count) in
     grind (arith, nat_tests, none, some, few)

@@ -12,7 +12,9 @@ ghost use Rattle.set_codec.specs.inner.Reading.{candidate_at, candidates_at, fro
 
 use crate::change_reading::read_changes;
 use crate::fault::{CodecFault, Limit};
-use crate::fields::{read_count, read_end, read_epoch, read_mark, read_other, read_rows, read_start};
+use crate::fields::{
+    read_count, read_end, read_epoch, read_mark, read_other, read_rows, read_start,
+};
 use geo_base::limits::{MAX_BATCH_BYTES, MAX_SET_BYTES};
 use geo_base::{Epoch, RegionNo};
 use geo_schema::Schema;
@@ -125,10 +127,7 @@ pub(crate) fn read_batch_at(
     ensures exact { Gives NoMemory (λ b. b) result (batch_at schema.now regions to bytes.now at) }
 {
     if (bytes.len() - at) as u64 > MAX_BATCH_BYTES {
-        return Err(CodecFault::OverLimit(
-            at + MAX_BATCH_BYTES as usize,
-            Limit::BatchBytes,
-        ));
+        return Err(CodecFault::OverLimit(at + MAX_BATCH_BYTES as usize, Limit::BatchBytes));
     }
     read_body(alloc, schema, regions, to, bytes, at)
 }

@@ -67,7 +67,7 @@ module _ (bytes : List ℕ) (tables : List TableDef) (schema : IsSchema tables) 
   items_tell region epoch count sealed =
       tells_as (AreBytes bytes) (BehindCount region epoch count) (BehindCount region epoch count) (λ e. FirstOrLater (IsCandidatesFault tables epoch count.0 bytes count.1 e) (ItemsRead epoch count.0 count.1) (λ _. ⊥)) (IsCandidatesFault tables epoch count.0 bytes count.1)
       (tells_then (AreBytes bytes) (candidates_at tables epoch count.0 bytes count.1) (λ items. done (made region epoch items)) (ItemsRead epoch count.0 count.1) (IsCandidatesFault tables epoch count.0 bytes count.1)
-        (λ items y. made region epoch items ≡ y) (λ _ _. ⊥) (candidates_tell bytes tables schema epoch sealed count.0 count.1) (λ items _. tells_done (AreBytes bytes) (made region epoch items)))
+      (λ items y. made region epoch items ≡ y) (λ _ _. ⊥) (candidates_tell bytes tables schema epoch sealed count.0 count.1) (λ items _. tells_done (AreBytes bytes) (made region epoch items)))
       (λ _ y s. s) (λ y s. s) (λ _ e h. elim h [ inl c ↦ c | inr c ↦ absurd c.2 ]) (λ e h. inl h)
 
   parts_tell : (at : ℕ) → Tells (AreBytes bytes) (front_at tables regions to bytes at) (PartsStand at) (IsFrontFault tables regions to bytes at)
@@ -110,21 +110,34 @@ module _ (bytes : List ℕ) (tables : List TableDef) (schema : IsSchema tables) 
       let sealed : b.epoch < LAST_EPOCH = s.sealable.1 in
       let behind_mark = rest_stands mark (b.region ∷ (number_spelling b.epoch ++ (number ++ spelled))) bytes at next s.stands in
       let behind_region = rest_stands (b.region ∷ []) (number_spelling b.epoch ++ (number ++ spelled)) bytes (at + 4) next behind_mark in
-      let behind_epoch = rest_stands (number_spelling b.epoch) (number ++ spelled) bytes (at + 4 + 1) next behind_region in
-      (
+      let behind_epoch = rest_stands (number_spelling b.epoch) (number ++ spelled) bytes (at + 4 + 1) next behind_region in (
         (mark, at + 4),
         ((front_stands mark (b.region ∷ (number_spelling b.epoch ++ (number ++ spelled))) bytes at next s.stands, refl), refl),
-        ((b.region, at + 4 + 1), ((front_stands (b.region ∷ []) (number_spelling b.epoch ++ (number ++ spelled)) bytes (at + 4) next behind_mark, s.here), s.other),
-          ((b.epoch, at + 4 + 1 + 4), ((front_stands (number_spelling b.epoch) (number ++ spelled) bytes (at + 4 + 1) next behind_region, omega (arith, sealed)), s.sealable),
-            ((length b.items, at + 4 + 1 + 4 + 4), ((front_stands number spelled bytes (at + 4 + 1 + 4) next behind_epoch, omega (arith, few)), few),
-              ((b.items, next),
-                (refl, record {
-                  lawful = recursion_from_All (IsCandidate b.epoch) b.items s.lawful.lawful;
-                  fits = s.items;
-                  cells = s.cells;
-                  stands = rest_stands number spelled bytes (at + 4 + 1 + 4) next behind_epoch;
-                }),
-                refl)))),
+        (
+          (b.region, at + 4 + 1),
+          ((front_stands (b.region ∷ []) (number_spelling b.epoch ++ (number ++ spelled)) bytes (at + 4) next behind_mark, s.here), s.other),
+          (
+            (b.epoch, at + 4 + 1 + 4),
+            ((front_stands (number_spelling b.epoch) (number ++ spelled) bytes (at + 4 + 1) next behind_region, omega (arith, sealed)), s.sealable),
+            (
+              (length b.items, at + 4 + 1 + 4 + 4),
+              ((front_stands number spelled bytes (at + 4 + 1 + 4) next behind_epoch, omega (arith, few)), few),
+              (
+                (b.items, next),
+                (
+                  refl,
+                  record {
+                    lawful = recursion_from_All (IsCandidate b.epoch) b.items s.lawful.lawful;
+                    fits = s.items;
+                    cells = s.cells;
+                    stands = rest_stands number spelled bytes (at + 4 + 1 + 4) next behind_epoch;
+                  },
+                ),
+                refl,
+              ),
+            ),
+          ),
+        ),
       )
 
   pub front_tells : (at : ℕ) → Tells (AreBytes bytes) (front_at tables regions to bytes at) (BatchStands tables regions to bytes at) (IsFrontFault tables regions to bytes at)
@@ -145,19 +158,22 @@ module _ (bytes : List ℕ) (tables : List TableDef) (schema : IsSchema tables) 
       (λ b. (x : Batch × ℕ) × BatchStands tables regions to bytes at x × (IsEnd bytes x.1 × (x.0 ≡ b))) (λ e. FirstOrLater (IsFrontFault tables regions to bytes at e) (BatchStands tables regions to bytes at) (λ x. IsTrailing bytes x.1 e))
       d.0 (not_from_Decides (leb (length bytes - at) MAX_BATCH_BYTES) d)
       (tells_then (AreBytes bytes) (front_at tables regions to bytes at) (λ x. end_at x.0 bytes x.1) (BatchStands tables regions to bytes at) (IsFrontFault tables regions to bytes at) (λ x b. IsEnd bytes x.1 × (x.0 ≡ b)) (λ x. IsTrailing bytes x.1)
-        (front_tells at) (λ x _. end_tells bytes x.0 x.1))
+      (front_tells at) (λ x _. end_tells bytes x.0 x.1))
 
   -- a batch that was read is lawful, and its spelling is the rest of the bytes
   pub last_lawful : (at : ℕ) (b : Batch) → LastStands at b → (drop at bytes ≡ batch_spelling tables b) × (regions ≤ MAX_REGIONS → FitsRegions tables regions b) × IsOther to b.region
   last_lawful at b (small, (x, s, (end, is))) =
       let rest : drop at bytes ≡ batch_spelling tables x.0 = rest_is (batch_spelling tables x.0) bytes at x.1 s.stands end in
       let few : length (batch_spelling tables x.0) ≤ MAX_BATCH_BYTES = omega (arith, small, length-drop at bytes, ap length rest) in
-      subst (λ (c : Batch). (drop at bytes ≡ batch_spelling tables c) × (regions ≤ MAX_REGIONS → FitsRegions tables regions c) × IsOther to c.region) is
-      (rest, (λ within. record {
-        here = s.here;
-        fits = record { region = omega (arith, s.here, within); sealable = s.sealable; lawful = s.lawful; items = All-from_recursion (FitsTables tables) x.0.items s.items; few = few };
-        cells = All-from_recursion HaveCells x.0.items s.cells;
-      }), s.other)
+      subst (λ (c : Batch). (drop at bytes ≡ batch_spelling tables c) × (regions ≤ MAX_REGIONS → FitsRegions tables regions c) × IsOther to c.region) is (
+        rest,
+        (λ within. record {
+          here = s.here;
+          fits = record { region = omega (arith, s.here, within); sealable = s.sealable; lawful = s.lawful; items = All-from_recursion (FitsTables tables) x.0.items s.items; few = few };
+          cells = All-from_recursion HaveCells x.0.items s.cells;
+        }),
+        s.other,
+      )
 
   -- a lawful one whose spelling stands there
   pub lawful_stands : (at next : ℕ) (b : Batch) → FitsRegions tables regions b → IsOther to b.region → StandsAt (batch_spelling tables b) bytes at next → BatchStands tables regions to bytes at (b, next)
@@ -187,7 +203,7 @@ pub one_batch : OneBatchOrFault
 one_batch tables regions bytes schema within fits =
     one_answer (AreBytes bytes) (batch_at tables regions None bytes 0) (SpellsBatch tables regions bytes) (IsBatchFault tables regions bytes)
     (tells_as (AreBytes bytes) (LastStands bytes tables schema regions None 0) (SpellsBatch tables regions bytes) (IsBatchFault tables regions bytes) (IsBatchFault tables regions bytes) (batch_tells bytes tables schema regions None 0)
-      (λ _ b s. let l = last_lawful bytes tables schema regions None 0 b s in (l.1 within, sym l.0)) (λ b s. spelled_last tables regions bytes b schema s) (λ _ e h. h) (λ e h. h))
+    (λ _ b s. let l = last_lawful bytes tables schema regions None 0 b s in (l.1 within, sym l.0)) (λ b s. spelled_last tables regions bytes b schema s) (λ _ e h. h) (λ e h. h))
     fits
 
 -- ---- beginnings

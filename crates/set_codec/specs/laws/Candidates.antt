@@ -99,14 +99,18 @@ module _ (bytes : List ℕ) (tables : List TableDef) (schema : IsSchema tables) 
       let spelled = changes_spelling tables c.set in
       let number = number_spelling (length c.set) in
       let behind = rest_stands (number_spelling c.start) (number ++ spelled) bytes at next s.stands in
-      let rows_few : length c.set ≤ MAX_SET_ROWS = s.lawful.lawful.few in
-      (
+      let rows_few : length c.set ≤ MAX_SET_ROWS = s.lawful.lawful.few in (
         (c.start, at + 4),
         ((front_stands (number_spelling c.start) (number ++ spelled) bytes at next s.stands, omega (arith, s.lawful.earlier, sealed)), (s.lawful.earlier, s.lawful.young)),
-        ((length c.set, at + 4 + 4), ((front_stands number spelled bytes (at + 4) next behind, omega (arith, rows_few)), (s.lawful.some, s.lawful.lawful.few)),
-          ((c.set, next),
+        (
+          (length c.set, at + 4 + 4),
+          ((front_stands number spelled bytes (at + 4) next behind, omega (arith, rows_few)), (s.lawful.some, s.lawful.lawful.few)),
+          (
+            (c.set, next),
             (refl, record { fits = recursion_from_All (FitsTable tables) c.set s.fits.changes; cells = recursion_from_All HasCells c.set s.cells; after = set_after c.set s.lawful.lawful.rising; stands = rest_stands number spelled bytes (at + 4) next behind }),
-            (s.fits.few, refl))),
+            (s.fits.few, refl),
+          ),
+        ),
       )
 
   pub candidate_tells : (at : ℕ) → Tells (AreBytes bytes) (candidate_at tables epoch bytes at) (CandidateStands at) (IsCandidateFault tables epoch bytes at)

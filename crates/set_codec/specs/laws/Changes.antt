@@ -87,7 +87,7 @@ module _ (bytes : List ℕ) (tables : List TableDef) (schema : IsSchema tables) 
       tells_as (AreBytes bytes) (λ y. (x : List Cell × ℕ) × ((length x.0 ≡ length table.columns) × RowStands table row.key 0 bytes at x) × (((row, Put x.0), x.1) ≡ y)) (DoneStands table row kind.Put at)
       (λ e. FirstOrLater (IsRowFault table row.key bytes at e) (λ x. (length x.0 ≡ length table.columns) × RowStands table row.key 0 bytes at x) (λ _. ⊥)) (IsDoneFault table row.key kind.Put bytes at)
       (tells_then (AreBytes bytes) (row_at table row.key bytes at) (λ image. Ok ((row, Put image.0), image.1)) (λ x. (length x.0 ≡ length table.columns) × RowStands table row.key 0 bytes at x) (IsRowFault table row.key bytes at)
-        (λ x y. ((row, Put x.0), x.1) ≡ y) (λ _ _. ⊥) (row_tells bytes table row.key at fits are) (λ x _. tells_done (AreBytes bytes) ((row, Put x.0), x.1)))
+      (λ x y. ((row, Put x.0), x.1) ≡ y) (λ _ _. ⊥) (row_tells bytes table row.key at fits are) (λ x _. tells_done (AreBytes bytes) ((row, Put x.0), x.1)))
       (λ _ y s. subst (DoneStands table row kind.Put at) s.2 (refl, s.1.0, s.1.1)) back
       (λ _ e h. elim h [ inl c ↦ c | inr c ↦ absurd c.2 ]) (λ e h. inl h)
     where
@@ -195,12 +195,14 @@ module _ (bytes : List ℕ) (tables : List TableDef) (schema : IsSchema tables) 
   unfolding change_spelling DoneStands
   apart last at ((row, Remove), next) s =
       let spelled = cells_spelling row.key in
-      let behind = rest_stands (row.table ∷ []) (2 ∷ spelled) bytes at next s.stands in
-      (
+      let behind = rest_stands (row.table ∷ []) (2 ∷ spelled) bytes at next s.stands in (
         (row.table, at + 1),
         (front_stands (row.table ∷ []) (2 ∷ spelled) bytes at next s.stands, s.fits.table),
-        ((kind.Remove, at + 1 + 1), front_stands (2 ∷ []) spelled bytes (at + 1) next behind,
-          ((row.key, next), (s.fits.key.0, record { taken = s.fits.key.1; are = s.cells; stands = rest_stands (2 ∷ []) spelled bytes (at + 1) next behind }), (s.after, (refl, refl)))),
+        (
+          (kind.Remove, at + 1 + 1),
+          front_stands (2 ∷ []) spelled bytes (at + 1) next behind,
+          ((row.key, next), (s.fits.key.0, record { taken = s.fits.key.1; are = s.cells; stands = rest_stands (2 ∷ []) spelled bytes (at + 1) next behind }), (s.after, (refl, refl))),
+        ),
       )
   apart last at ((row, Put image), next) s =
       let def = table_at tables row.table in
@@ -208,14 +210,25 @@ module _ (bytes : List ℕ) (tables : List TableDef) (schema : IsSchema tables) 
       let others = cells_spelling (other_cells def.key 0 image) in
       let behind = rest_stands (row.table ∷ []) (1 ∷ (spelled ++ others)) bytes at next s.stands in
       let cells_stand = rest_stands (1 ∷ []) (spelled ++ others) bytes (at + 1) next behind in
-      let middle = at + 1 + 1 + length spelled in
-      (
+      let middle = at + 1 + 1 + length spelled in (
         (row.table, at + 1),
         (front_stands (row.table ∷ []) (1 ∷ (spelled ++ others)) bytes at next s.stands, s.fits.table),
-        ((kind.Put, at + 1 + 1), front_stands (1 ∷ []) (spelled ++ others) bytes (at + 1) next behind,
-          ((row.key, middle), (s.fits.key.0, record { taken = s.fits.key.1; are = s.cells.0; stands = front_stands spelled others bytes (at + 1 + 1) next cells_stand }),
-            (s.after, (refl, s.fits.image.0.count,
-              record { taken = row_taken def image s.fits.image.0; are = s.cells.1; same = key_same def row.key image s.fits.image.1; stands = rest_stands spelled others bytes (at + 1 + 1) next cells_stand })))),
+        (
+          (kind.Put, at + 1 + 1),
+          front_stands (1 ∷ []) (spelled ++ others) bytes (at + 1) next behind,
+          (
+            (row.key, middle),
+            (s.fits.key.0, record { taken = s.fits.key.1; are = s.cells.0; stands = front_stands spelled others bytes (at + 1 + 1) next cells_stand }),
+            (
+              s.after,
+              (
+                refl,
+                s.fits.image.0.count,
+                record { taken = row_taken def image s.fits.image.0; are = s.cells.1; same = key_same def row.key image s.fits.image.1; stands = rest_stands spelled others bytes (at + 1 + 1) next cells_stand },
+              ),
+            ),
+          ),
+        ),
       )
 
   pub change_tells : (last : Option RowId) (at : ℕ) → Tells (AreBytes bytes) (change_at tables last bytes at) (ChangeStands last at) (IsChangeFault tables last bytes at)

@@ -127,7 +127,7 @@ module _ (bytes : List ℕ) where
   kind_tells at =
       tells_as (AreBytes bytes) (λ y. (x : ℕ × ℕ) × ByteStands bytes at x × ((x.0 ≡ kind_byte y.0) × (x.1 ≡ y.1))) (KindStands bytes at) (IsKindFault bytes at) (IsKindFault bytes at)
       (tells_then (AreBytes bytes) (byte_at Short bytes at) (λ x. cond (eqb x.0 1) (Ok (kind.Put, x.1)) (cond (eqb x.0 2) (Ok (kind.Remove, x.1)) (Err (BadTag at)))) (ByteStands bytes at) (IsCut Short 1 bytes at)
-        (λ x y. (x.0 ≡ kind_byte y.0) × (x.1 ≡ y.1)) (λ x e. (¬ (IsKind x.0)) × (e ≡ BadTag at)) (byte_tells Short bytes at) (λ x _. kind_of x.0 x.1 at))
+      (λ x y. (x.0 ≡ kind_byte y.0) × (x.1 ≡ y.1)) (λ x e. (¬ (IsKind x.0)) × (e ≡ BadTag at)) (byte_tells Short bytes at) (λ x _. kind_of x.0 x.1 at))
       (λ _ y s. there y s.0.0 s.0.1 s.1 s.2) (λ y s. ((kind_byte y.0, y.1), s, (refl, refl))) (λ _ e h. h) (λ e h. h)
     where
       there : (y : Kind × ℕ) (n next : ℕ) → ByteStands bytes at (n, next) → (n ≡ kind_byte y.0) × (next ≡ y.1) → KindStands bytes at y

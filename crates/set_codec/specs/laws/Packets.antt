@@ -45,7 +45,7 @@ module _ (bytes : List ℕ) (tables : List TableDef) (schema : IsSchema tables) 
       tells_as (AreBytes bytes) (λ p. (b : Batch) × LastStands bytes tables schema regions (Some to.0) to.1 b × (packet.Batch to.0 (drop to.1 bytes) ≡ p)) (λ p. (b : Batch) × LastStands bytes tables schema regions (Some to.0) to.1 b × (packet.Batch to.0 (drop to.1 bytes) ≡ p))
       (λ e. FirstOrLater (IsBatchFaultAt tables regions (Some to.0) bytes to.1 e) (LastStands bytes tables schema regions (Some to.0) to.1) (λ _. ⊥)) (IsBatchFaultAt tables regions (Some to.0) bytes to.1)
       (tells_then (AreBytes bytes) (batch_at tables regions (Some to.0) bytes to.1) (λ _. Ok (packet.Batch to.0 (drop to.1 bytes))) (LastStands bytes tables schema regions (Some to.0) to.1) (IsBatchFaultAt tables regions (Some to.0) bytes to.1)
-        (λ _ p. packet.Batch to.0 (drop to.1 bytes) ≡ p) (λ _ _. ⊥) (batch_tells bytes tables schema regions (Some to.0) to.1) (λ _ _. tells_done (AreBytes bytes) (packet.Batch to.0 (drop to.1 bytes))))
+      (λ _ p. packet.Batch to.0 (drop to.1 bytes) ≡ p) (λ _ _. ⊥) (batch_tells bytes tables schema regions (Some to.0) to.1) (λ _ _. tells_done (AreBytes bytes) (packet.Batch to.0 (drop to.1 bytes))))
       (λ _ p s. s) (λ p s. s) (λ _ e h. elim h [ inl c ↦ c | inr c ↦ absurd c.2 ]) (λ e h. inl h))
 
   -- ---- questions
@@ -112,7 +112,7 @@ module _ (bytes : List ℕ) (tables : List TableDef) (schema : IsSchema tables) 
   packet_tells =
       tells_as (AreBytes bytes) PartsStand PartsStand (λ e. FirstOrLater (IsCut Short 1 bytes 0 e) (ByteStands bytes 0) (λ kind. FaultOfKind kind.0 kind.1 e)) (IsPacketFault tables regions bytes)
       (tells_then (AreBytes bytes) (byte_at Short bytes 0) (λ kind. cond (eqb kind.0 1) (batch_packet_at tables regions bytes kind.1) (cond (eqb kind.0 2) (fetch_packet_at regions bytes kind.1) (Err (BadTag 0)))) (ByteStands bytes 0) (IsCut Short 1 bytes 0)
-        (λ kind. StandsOfKind kind.0 kind.1) (λ kind. FaultOfKind kind.0 kind.1) (byte_tells Short bytes 0) (λ kind _. kind_tells kind.0 kind.1))
+      (λ kind. StandsOfKind kind.0 kind.1) (λ kind. FaultOfKind kind.0 kind.1) (byte_tells Short bytes 0) (λ kind _. kind_tells kind.0 kind.1))
       (λ _ p s. s) (λ p s. s)
       (λ _ e h. elim h [ inl c ↦ inl (inl c) | inr c ↦ elim c.2 [ inl d ↦ inl (inr (c.0, c.1, d)) | inr d ↦ inr (c.0, (c.1, d.0), d.1) ] ])
       (λ e h. elim h [ inl c ↦ elim c [ inl d ↦ inl d | inr d ↦ inr (d.0, d.1, inl d.2) ] | inr c ↦ inr (c.0, c.1.0, inr (c.1.1, c.2)) ])
@@ -143,12 +143,17 @@ spelled_parts tables regions bytes (packet.Batch to bs) schema (fits, e) =
     let all : StandsAt (1 ∷ to ∷ bs) bytes 0 n = subst (λ (t : List ℕ). StandsAt (1 ∷ to ∷ bs) t 0 (length t)) e (whole_stands (1 ∷ to ∷ bs)) in
     let behind_kind = rest_stands (1 ∷ []) (to ∷ bs) bytes 0 n all in
     let behind_to : StandsAt (batch_spelling tables b) bytes 2 n = subst (λ (s : List ℕ). StandsAt s bytes 2 n) fits.1.3 (rest_stands (to ∷ []) bs bytes 1 n behind_kind) in
-    let rest : drop 2 bytes ≡ bs = ap (drop 2) (sym e) in
-    (
+    let rest : drop 2 bytes ≡ bs = ap (drop 2) (sym e) in (
       (1, 1),
       front_stands (1 ∷ []) (to ∷ bs) bytes 0 n all,
-      inl (refl, ((to, 2), (front_stands (to ∷ []) bs bytes 1 n behind_kind, fits.0),
-        (b, lawful_last bytes tables schema regions (Some to) 2 n b fits.1.1 fits.1.2 behind_to (omega arith), ap (packet.Batch to) rest))),
+      inl (
+        refl,
+        (
+          (to, 2),
+          (front_stands (to ∷ []) bs bytes 1 n behind_kind, fits.0),
+          (b, lawful_last bytes tables schema regions (Some to) 2 n b fits.1.1 fits.1.2 behind_to (omega arith), ap (packet.Batch to) rest),
+        ),
+      ),
     )
 spelled_parts tables regions bytes (packet.Fetch from to epoch) schema (fits, e) =
     let number = number_spelling epoch in
@@ -156,20 +161,28 @@ spelled_parts tables regions bytes (packet.Fetch from to epoch) schema (fits, e)
     let sealed : epoch < LAST_EPOCH = fits.3.1 in
     let all : StandsAt (2 ∷ from ∷ to ∷ number) bytes 0 n = subst (λ (t : List ℕ). StandsAt (2 ∷ from ∷ to ∷ number) t 0 (length t)) e (whole_stands (2 ∷ from ∷ to ∷ number)) in
     let behind_kind = rest_stands (2 ∷ []) (from ∷ to ∷ number) bytes 0 n all in
-    let behind_from = rest_stands (from ∷ []) (to ∷ number) bytes 1 n behind_kind in
-    (
+    let behind_from = rest_stands (from ∷ []) (to ∷ number) bytes 1 n behind_kind in (
       (2, 1),
       front_stands (2 ∷ []) (from ∷ to ∷ number) bytes 0 n all,
-      inr (refl, ((from, 2), (front_stands (from ∷ []) (to ∷ number) bytes 1 n behind_kind, fits.0),
-        ((to, 3), ((front_stands (to ∷ []) number bytes 2 n behind_from, fits.1), fits.2),
-          ((epoch, n), ((rest_stands (to ∷ []) number bytes 2 n behind_from, omega (arith, sealed)), fits.3), (omega arith, refl))))),
+      inr (
+        refl,
+        (
+          (from, 2),
+          (front_stands (from ∷ []) (to ∷ number) bytes 1 n behind_kind, fits.0),
+          (
+            (to, 3),
+            ((front_stands (to ∷ []) number bytes 2 n behind_from, fits.1), fits.2),
+            ((epoch, n), ((rest_stands (to ∷ []) number bytes 2 n behind_from, omega (arith, sealed)), fits.3), (omega arith, refl)),
+          ),
+        ),
+      ),
     )
 
 pub one_packet : OnePacketOrFault
 one_packet tables regions bytes schema within fits =
     one_answer (AreBytes bytes) (packet_at tables regions bytes) (SpellsPacket tables regions bytes) (IsPacketFault tables regions bytes)
     (tells_as (AreBytes bytes) (PartsStand bytes tables schema regions) (SpellsPacket tables regions bytes) (IsPacketFault tables regions bytes) (IsPacketFault tables regions bytes) (packet_tells bytes tables schema regions)
-      (λ _ p s. let l = packet_lawful bytes tables schema regions p s in (l.1 within, l.0)) (λ p s. spelled_parts tables regions bytes p schema s) (λ _ e h. h) (λ e h. h))
+    (λ _ p s. let l = packet_lawful bytes tables schema regions p s in (l.1 within, l.0)) (λ p s. spelled_parts tables regions bytes p schema s) (λ _ e h. h) (λ e h. h))
     fits
 
 -- ---- beginnings

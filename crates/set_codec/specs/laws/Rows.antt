@@ -104,7 +104,7 @@ module _ (bytes : List ℕ) (table : TableDef) where
   key_tells at =
       tells_as (AreBytes bytes) (λ x. (length x.0 ≡ length table.key) × KeyStands table 0 bytes at x) (λ x. (length x.0 ≡ length table.key) × KeyStands table 0 bytes at x) _ (IsKeyFault table bytes at)
       (things_tell (λ i. taken_at table (get_or table.key i 0)) (λ i _. i + 1) (λ i front. i + length front) bytes (AreBytes bytes) (λ i. TakenStands table (get_or table.key i 0) bytes) (λ i. IsTakenFault table (get_or table.key i 0) bytes)
-        (λ i. KeyStands table i bytes) (λ i place. taken_tells (get_or table.key i 0) place) key_list index_behind (length table.key) 0 at)
+      (λ i. KeyStands table i bytes) (λ i place. taken_tells (get_or table.key i 0) place) key_list index_behind (length table.key) 0 at)
       (λ _ x s. s) (λ x s. s)
       (λ _ e h. record { front = h.front; place = h.place; few = h.few; stand = h.stand; fault = subst (λ (n : ℕ). IsTakenFault table (get_or table.key n 0) bytes h.place e) (zero-add (length h.front)) h.fault })
       (λ e h. record { front = h.front; place = h.place; few = h.few; stand = h.stand; fault = subst (λ (n : ℕ). IsTakenFault table (get_or table.key n 0) bytes h.place e) (sym (zero-add (length h.front))) h.fault })
@@ -137,9 +137,10 @@ module _ (bytes : List ℕ) (table : TableDef) where
 
   all_taken : (place : ℕ → ℕ) (i : ℕ) (cells : List Cell) → ((k : ℕ) → k < length cells → IsTaken table (place (i + k)) (get_or cells k cell.Null)) → AreTaken table place i cells
   all_taken place i [] each = tt
-  all_taken place i (c ∷ cells) each =
-      (subst (λ (n : ℕ). IsTaken table (place n) c) (add-zero i) (each 0 (omega arith)),
-        all_taken place (i + 1) cells (λ k lt. let n_is : i + suc k ≡ i + 1 + k = omega arith in subst (λ (n : ℕ). IsTaken table (place n) (get_or cells k cell.Null)) n_is (each (suc k) (omega arith))))
+  all_taken place i (c ∷ cells) each = (
+    subst (λ (n : ℕ). IsTaken table (place n) c) (add-zero i) (each 0 (omega arith)),
+    all_taken place (i + 1) cells (λ k lt. let n_is : i + suc k ≡ i + 1 + k = omega arith in subst (λ (n : ℕ). IsTaken table (place n) (get_or cells k cell.Null)) n_is (each (suc k) (omega arith))),
+  )
 
   row_cell_tells : (key : List Cell) (i at : ℕ) → FitsKey table key → AreCells key → (o : Option ℕ) → place_in table.key i ≡ o → Tells (AreBytes bytes) (row_cell_at table key i o bytes at) (RowCellStands key i at) (RowCellFault i at)
   unfolding row_cell_at
@@ -222,7 +223,7 @@ module _ (bytes : List ℕ) (table : TableDef) where
   row_tells key at fits are =
       tells_as (AreBytes bytes) (λ x. (length x.0 ≡ length table.columns) × RowStands table key 0 bytes at x) (λ x. (length x.0 ≡ length table.columns) × RowStands table key 0 bytes at x) _ (IsRowFault table key bytes at)
       (things_tell (next_cell_at table key) (λ i _. i + 1) (λ i front. i + length front) bytes (AreBytes bytes) (RowCellStands key) RowCellFault (λ i. RowStands table key i bytes)
-        (λ i place. row_cell_tells key i place fits are (place_in table.key i) refl) (row_list key) index_behind (length table.columns) 0 at)
+      (λ i place. row_cell_tells key i place fits are (place_in table.key i) refl) (row_list key) index_behind (length table.columns) 0 at)
       (λ _ x s. s) (λ x s. s)
       (λ _ e h. record { front = h.front; place = h.place; few = h.few; stand = h.stand; fault = subst (λ (n : ℕ). RowCellFault n h.place e) (zero-add (length h.front)) h.fault })
       (λ e h. record { front = h.front; place = h.place; few = h.few; stand = h.stand; fault = subst (λ (n : ℕ). RowCellFault n h.place e) (sym (zero-add (length h.front))) h.fault })

@@ -10,7 +10,7 @@ pub returns-in_err-change-clause-exact : goal.returns-in_err-change-clause-exact
 returns-in_err-change-clause-exact c =
     let p = err_from_is_err_and c.from_residual.result c.from_residual.ensures.1 in
     rw (p.1, p.2) (fails (change_at c.args.schema.now) row_behind c.args.bytes.now c.args.count c.loop.counter (last_row c.loop.changes.items) c.loop.changes.items c.loop.next _ _ _ c.loop-test.true
-      (fails_behind c.args.schema.now c.args.bytes.now c.loop.next (option_copied c.last_row-last.result) c.loop.changes.items _ _ (c.last_row-last.ensures ∙ ap last_row c.as_slice.ensures.value) c.in_err-change.ensures.exact) c.loop.invariant.so_far)
+    (fails_behind c.args.schema.now c.args.bytes.now c.loop.next (option_copied c.last_row-last.result) c.loop.changes.items _ _ (c.last_row-last.ensures ∙ ap last_row c.as_slice.ensures.value) c.in_err-change.ensures.exact) c.loop.invariant.so_far)
 
 pub loop-preserved : goal.loop-preserved
 loop-preserved c =
