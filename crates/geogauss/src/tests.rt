@@ -1,5 +1,7 @@
 //! What no clause says: that plays come to their end, the printed text of whole runs, and what is printed
 //! where the source or the sink fails.
+mod examples;
+
 use crate::command::{PlayOpts, WordFault, Words};
 use crate::edge::carry_out;
 use crate::playing::play_call;
@@ -84,6 +86,17 @@ fn prints_whole_runs(rt: HostRuntime) -> Result<(), Fail> {
         let (status, text) = play(alloc, with_header(alloc, events)?, &[], &[])?;
         assert_eq!(rt; status, Status::Done, "{events}");
         assert_eq!(rt; text.as_slice(), lines.as_bytes(), "{events}");
+    }
+    Ok(())
+}
+
+#[test]
+fn plays_the_examples(rt: HostRuntime) -> Result<(), Fail> {
+    let alloc = rt.alloc();
+    for (script, lines) in [examples::CONTESTED, examples::REORDERED] {
+        let (status, text) = play(alloc, script.as_bytes().to_vec(alloc)?, &[], &[])?;
+        assert_eq!(rt; status, Status::Done);
+        assert_eq!(rt; text.as_slice(), lines.as_bytes());
     }
     Ok(())
 }
