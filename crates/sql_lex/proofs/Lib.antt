@@ -2,3 +2,4 @@ pub mod Boundaries
 pub mod Lexing
 pub mod Quotes
 pub mod Values
+pub mod OneAnswers

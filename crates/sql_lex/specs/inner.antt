@@ -1,4 +1,4 @@
--- What only the bodies of this crate speak of.
+-- Inner: what no promise speaks of. Proofs of the crates above may, where they go through the steps that cut a text.
 pub mod Keywords
 pub mod Pieces
 pub mod Quoted

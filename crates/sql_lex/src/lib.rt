@@ -21,8 +21,8 @@ mod word;
 
 pub use keyword::Keyword;
 pub use laws::{
-    faults_are_where_no_token_begins, keywords_are_their_words, tokens_are_slices,
-    tokens_are_the_text,
+    faults_are_where_no_token_begins, keywords_are_their_words, texts_have_one_answer,
+    tokens_are_slices, tokens_are_the_text,
 };
 pub use symbol::Symbol;
 pub use token::{LexFault, Token, TokenKind};
