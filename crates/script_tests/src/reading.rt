@@ -1,5 +1,5 @@
 //! What texts are read as: scripts, or the first bad line.
-pub use geo_script::ReadFault as Refusal;
+pub use geo_script::ScriptRefusal as Refusal;
 use geo_script::{Form, Script, read_script};
 use std::alloc::{AllocError, Global};
 
