@@ -21,12 +21,11 @@ fn are_taken(table: &TableDef, from: usize, cells: &[Cell]) -> bool
     let [cell, rest @ ..] = cells else {
         return true;
     };
-    let key = table.key.items();
+    let (key, columns) = (table.key.items(), table.columns.items());
     let place = key[from];
-    let Some(column) = table.columns.items().get(place as usize) else {
-        return false;
-    };
-    cell_fault(key, column, place, cell).is_none() && are_taken(table, from + 1, rest)
+    (place as usize) < columns.len()
+        && cell_fault(key, &columns[place as usize], place, cell).is_none()
+        && are_taken(table, from + 1, rest)
 }
 
 fn fits_key(table: &TableDef, key: &Key) -> bool
@@ -56,13 +55,19 @@ fn fits_change(alloc: Global, schema: &Schema, row: &RowId, change: &Change) -> 
     }
 }
 
+fn table_of<'a>(schema: &'a Schema, row: &RowId) -> &'a TableDef
+    requires { row.now.table < length schema.now }
+    ensures { result.now ≡ table_at schema.entry.now row.now.table }
+{
+    schema.table(row.table).unwrap()
+}
+
 fn fits_table(alloc: Global, schema: &Schema, row: &RowId, change: &Change) -> bool
     ensures { IsTrue result → FitsTable schema.now (row.now, change.now) }
 {
-    let Some(table) = schema.table(row.table) else {
-        return false;
-    };
-    fits_key(table, &row.key) && fits_change(alloc, schema, row, change)
+    row.table < schema.count()
+        && fits_key(table_of(schema, row), &row.key)
+        && fits_change(alloc, schema, row, change)
 }
 
 fn fits_tables(alloc: Global, schema: &Schema, candidate: &Candidate) -> bool
