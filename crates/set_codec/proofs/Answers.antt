@@ -1,6 +1,6 @@
 -- What readers answer, in terms of spellings and of what is wrong with the bytes.
 use Rattle.std.proofs.Common.{◌≡◌, ℕ, ◌≤◌, None, List, Result, Ok, Err, sym}
-use Rattle.std.specs.Prelude.{IfOk, IfErr}
+use Rattle.std.specs.Prelude.{IfOk}
 use Rattle.geo_base.specs.Results.{Gives}
 use Rattle.geo_base.specs.declared.limits.TheConstants.{MAX_REGIONS}
 use Rattle.geo_schema.specs.declared.table.TableDef.{TableDef}

@@ -1,5 +1,5 @@
 -- What is read of a cell, as one of a batch.
-use Rattle.std.proofs.Common.{◌≡◌, ℕ, List, Ok, Err, ap, ◌⊎◌, inl, inr}
+use Rattle.std.proofs.Common.{◌≡◌, ℕ, List, Ok, ap, ◌⊎◌, inl, inr}
 use Rattle.geo_base.specs.declared.cell.Cell.{Cell}
 use Rattle.geo_base.specs.Results.{Fails}
 use Rattle.row_codec.specs.declared.fault.CellReadFault.{CellReadFault}
@@ -8,7 +8,6 @@ use Rattle.row_codec.specs.Faults.{IsFaultAt}
 use Rattle.row_codec.specs.Spelling.{CellStands}
 use Rattle.row_codec.specs.inner.Reading.{cell_at}
 use Rattle.row_codec.specs.laws.Cells.{cell_tells}
-use Rattle.set_codec.specs.declared.fault.CodecFault.{CodecFault}
 use Rattle.set_codec.specs.declared.fault.CodecFault.TheVariants.{NoMemory}
 use Rattle.set_codec.specs.CellFaults.{fault_of}
 use Rattle.set_codec.specs.inner.Reading.{lifted}

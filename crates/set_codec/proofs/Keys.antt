@@ -13,7 +13,6 @@ use Rattle.geo_schema.specs.Rows.{is_in, Suits}
 use Rattle.geo_schema.specs.Tables.{IsTable}
 use Rattle.geo_schema.specs.laws.Places.{none_found}
 use Rattle.row_codec.specs.Places.{AreBytes}
-use Rattle.set_codec.specs.Fits.{AreTaken}
 use Rattle.set_codec.specs.inner.Reading.{key_at}
 use Rattle.set_codec.specs.laws.Rows.{taken_of, key_tells}
 

@@ -1,5 +1,5 @@
 -- What each fault of a batch or a packet says of the bytes: all that stands before the place is in order, and what the bytes have at the place breaks the rule that the fault names.
-use Rattle.std.specs.Prelude.{◌≡◌, ◌⊎◌, ℕ, ◌+◌, ◌-◌, false, Option, Some, None, List, [], ◌∷◌, length, slice_index}
+use Rattle.std.specs.Prelude.{◌≡◌, ◌⊎◌, ℕ, ◌+◌, ◌-◌, false, Option, Some, None, List, length, slice_index}
 use Rattle.std.specs.Int.{w32}
 use Rattle.geo_base.specs.declared.limits.TheConstants.{MAX_BATCH_BYTES}
 use Rattle.geo_base.specs.declared.cell.Cell.{Cell}

@@ -1,5 +1,5 @@
 -- Which batches fit a schema and keep the limits.
-use Rattle.std.specs.Prelude.{◌≡◌, ℕ, ◌+◌, None, Some, List, [], ◌∷◌, length, slice_index, All}
+use Rattle.std.specs.Prelude.{◌≡◌, ℕ, ◌+◌, Some, List, [], ◌∷◌, length, slice_index, All}
 use Rattle.geo_base.specs.declared.limits.TheConstants.{MAX_REGIONS}
 use Rattle.geo_base.specs.declared.cell.Cell.{Cell}
 use Rattle.geo_schema.specs.declared.table.TableDef.{TableDef}

@@ -1,5 +1,5 @@
 -- What stands at a place of the bytes and keeps its rules. In a pair the number is the place behind the spelling.
-use Rattle.std.specs.Prelude.{◌≡◌, ℕ, ◌+◌, ◌<◌, Option, Some, None, List, [], ◌∷◌, length, position, nat_eq, slice_index, slice_index_or}
+use Rattle.std.specs.Prelude.{◌≡◌, ℕ, ◌+◌, ◌<◌, Option, Some, List, [], ◌∷◌, length, position, nat_eq, slice_index, slice_index_or}
 use Rattle.std.specs.Int.{w32}
 use Rattle.std.specs.List.{AllByRecursion}
 use Rattle.geo_base.specs.declared.cell.Cell.{Cell}

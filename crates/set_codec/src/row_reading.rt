@@ -1,7 +1,8 @@
 //! The cells of rows, each tested against its column once it is read.
-ghost use Rattle.std.specs.Prelude.{◌≡◌, ◌≤◌, ◌<◌, length, position, nat_eq, slice_index_or, IfOk, IfSome};
+ghost use Rattle.std.specs.Prelude.{◌≡◌, ◌≤◌, ◌<◌, length, position, nat_eq, is_none, slice_index_or, IfOk, IfSome};
 ghost use Rattle.geo_base.specs.Results.{Gives};
 ghost use Rattle.geo_schema.specs.Tables.{IsTable};
+ghost use Rattle.geo_schema.specs.inner.Rows.{cell_fault};
 ghost use Rattle.row_codec.specs.inner.Reading.{cell_at};
 ghost use Rattle.set_codec.specs.Rules.{no_column};
 ghost use Rattle.set_codec.specs.declared.fault.CodecFault.TheVariants.{NoMemory};
@@ -28,6 +29,18 @@ fn column_at(table: &TableDef, place: u8) -> &ColumnDef
     &table.columns.items()[place as usize]
 }
 
+/// Whether the column at the place takes the cell.
+#[tactic(auto, using(crate::specs::laws::Rows::suits_faultless, crate::specs::laws::Rows::cause_faulty))]
+fn is_taken(table: &TableDef, place: u8, cell: &Cell) -> bool
+    requires { place < length table.now.columns }
+    ensures { result ≡ is_none (cell_fault table.now.key (slice_index_or table.now.columns place no_column) place cell.now) }
+{
+    match cell_fault(table.key.items(), column_at(table, place), place, cell) {
+        None => true,
+        Some(_) => false,
+    }
+}
+
 /// A cell that is taken by the column at the place.
 #[tactic(auto, unfolding(crate::specs::inner::Reading::taken_at))]
 fn read_taken(
@@ -43,7 +56,7 @@ fn read_taken(
     ensures within { IfOk result (λ x. x.1 ≤ length bytes.now) }
 {
     let (cell, next) = read_any_cell(alloc, bytes, at)?;
-    if cell_fault(table.key.items(), column_at(table, place), place, &cell).is_some() {
+    if !is_taken(table, place, &cell) {
         return Err(CodecFault::BadRow(at));
     }
     Ok((cell, next))

@@ -1,5 +1,5 @@
 -- Inner: how the readers of batches and packets go from left to right, and stop at the first fault that they meet.
-use Rattle.std.specs.Prelude.{ℕ, ◌+◌, ◌-◌, Bool, false, true, ◌&&◌, not, nat_lt, nat_le, ◌==◌, if◌then◌else◌, Option, None, Some, is_none, List, [], ◌∷◌, length, drop, slice_index, slice_index_or, position, nat_eq, Result, Ok, Err}
+use Rattle.std.specs.Prelude.{ℕ, ◌+◌, ◌-◌, Bool, true, ◌&&◌, not, nat_lt, nat_le, ◌==◌, if◌then◌else◌, Option, None, Some, is_none, List, [], ◌∷◌, length, drop, slice_index, slice_index_or, position, nat_eq, Result, Ok, Err}
 use Rattle.std.specs.Cmp.Lexicographic.{pointwise}
 use Rattle.std.specs.Int.{w32}
 use Rattle.std.specs.Ordering.{is_lt}

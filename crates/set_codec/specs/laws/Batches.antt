@@ -1,30 +1,27 @@
 -- Laws: what reading batches tells, and that no spelling of one begins another's.
-use Rattle.std.proofs.Common.{◌≡◌, ℕ, ◌+◌, ◌-◌, ◌<◌, ◌≤◌, true, false, cond, leb, Option, Some, None, List, [], ◌∷◌, ◌++◌, length, take, drop, Result, Ok, Err, refl, sym, ap, subst, ◌∙◌, ◌⊎◌, inl, inr, arith}
-use Rattle.std.specs.Int.{w32}
-use Rattle.std.specs.List.{AllByRecursion}
+use Rattle.std.proofs.Common.{◌≡◌, ℕ, ◌+◌, ◌-◌, ◌<◌, ◌≤◌, leb, Option, None, List, [], ◌∷◌, ◌++◌, length, drop, refl, sym, ap, subst, ◌∙◌, inl, inr, arith}
 use Rattle.std.proofs.lemmas.Bool.Decides.{not_from_Decides}
-use Rattle.std.proofs.lemmas.List.{append_cancel_left, length-append, length-drop, take_at}
+use Rattle.std.proofs.lemmas.List.{append_cancel_left, length-drop}
 use Rattle.std.proofs.lemmas.List.Elements.{recursion_from_All, All-from_recursion}
 use Rattle.geo_base.specs.declared.limits.TheConstants.{MAX_REGIONS, MAX_CANDIDATES, MAX_BATCH_BYTES, LAST_EPOCH}
 use Rattle.geo_base.specs.Results.{◌>>=◌}
-use Rattle.geo_base.specs.laws.Results.{done, lost, ok_is}
+use Rattle.geo_base.specs.laws.Results.{done, ok_is}
 use Rattle.geo_schema.specs.declared.table.TableDef.{TableDef}
 use Rattle.geo_schema.specs.Schemas.{IsSchema}
-use Rattle.row_codec.specs.Answers.{OneAnswer}
 use Rattle.row_codec.specs.Parts.{FirstOrLater}
 use Rattle.row_codec.specs.Places.{AreBytes, StandsAt}
 use Rattle.row_codec.specs.laws.Places.{stands_together, front_stands, rest_stands, begin_stands, whole_stands, rest_is}
 use Rattle.row_codec.specs.laws.Tells.{Tells, tells_as, tells_done, tells_then, tells_kept, one_answer}
 use Rattle.write_set.specs.declared.batch.Batch.{Batch}
 use Rattle.write_set.specs.declared.candidate.Candidate.{Candidate}
-use Rattle.write_set.specs.Journal.{IsCandidate, IsBatch}
+use Rattle.write_set.specs.Journal.{IsCandidate}
 use Rattle.set_codec.specs.declared.fault.CodecFault.{CodecFault}
 use Rattle.set_codec.specs.declared.fault.CodecFault.TheVariants.{OverLimit}
 use Rattle.set_codec.specs.declared.fault.Limit.TheVariants as limit
 use Rattle.set_codec.specs.Alone.{SpellsBatch, OneBatchOrFault, NoBatchBeginsAnother}
 use Rattle.set_codec.specs.Faults.{IsMarkFault, IsOtherFault, IsEpochFault, IsCountFault, IsCandidatesFault, IsTrailing, IsFrontFault, IsBatchFaultAt, IsBatchFault}
-use Rattle.set_codec.specs.Fits.{FitsTables, HaveCells, FitsSchema, FitsRegions}
-use Rattle.set_codec.specs.Rules.{IsRegionOf, IsOther, IsSealable, IsBatchSize, IsEnd}
+use Rattle.set_codec.specs.Fits.{FitsTables, HaveCells, FitsRegions}
+use Rattle.set_codec.specs.Rules.{IsOther, IsBatchSize, IsEnd}
 use Rattle.set_codec.specs.Spelling.{number_spelling, mark, candidates_spelling, batch_spelling}
 use Rattle.set_codec.specs.Standing.{MarkStands, OtherStands, EpochStands, CountStands, CandidatesStand, BatchStands}
 use Rattle.set_codec.specs.inner.Reading.{mark_at, other_at, epoch_at, count_at, candidates_at, end_at, front_at, body_at, batch_at}

@@ -1,14 +1,12 @@
 -- Laws: what reading candidates tells.
-use Rattle.std.proofs.Common.{◌≡◌, ℕ, ◌+◌, ◌-◌, ◌<◌, ◌≤◌, true, false, cond, leb, None, List, [], ◌∷◌, ◌++◌, length, Ok, Err, refl, sym, ap, subst, ◌∙◌, ◌⊎◌, inl, inr, arith}
+use Rattle.std.proofs.Common.{◌≡◌, ℕ, ◌+◌, ◌-◌, ◌<◌, ◌≤◌, cond, leb, None, List, ◌++◌, length, refl, sym, subst, ◌⊎◌, inl, inr, arith}
 use Rattle.std.specs.Bool.{Decides}
-use Rattle.std.specs.Int.{w32}
 use Rattle.std.proofs.lemmas.Bool.Decides.{Decides-like, not_from_Decides}
 use Rattle.std.proofs.lemmas.List.Elements.{recursion_from_All, All-from_recursion}
 use Rattle.geo_base.specs.declared.limits.TheConstants.{MAX_SET_ROWS, MAX_SET_BYTES, LAST_EPOCH}
 use Rattle.geo_base.specs.laws.Results.{done, lost}
 use Rattle.geo_schema.specs.declared.table.TableDef.{TableDef}
 use Rattle.geo_schema.specs.Schemas.{IsSchema}
-use Rattle.row_codec.specs.Fields.{NumberStands}
 use Rattle.row_codec.specs.Parts.{FirstOrLater}
 use Rattle.row_codec.specs.Places.{AreBytes, StandsAt}
 use Rattle.row_codec.specs.laws.Places.{stands_together, front_stands, rest_stands, nothing_stands, nothing_between}

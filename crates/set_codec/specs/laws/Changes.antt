@@ -1,19 +1,16 @@
 -- Laws: what reading changes tells.
-use Rattle.std.proofs.Common.{◌≡◌, ℕ, zero, suc, ◌+◌, ◌<◌, ◌≤◌, Bool, true, false, cond, Option, Some, None, List, [], ◌∷◌, ◌++◌, length, Result, Ok, Err, refl, sym, ap, subst, ◌∙◌, ◌⊎◌, inl, inr, arith}
+use Rattle.std.proofs.Common.{◌≡◌, ℕ, ◌+◌, ◌<◌, ◌≤◌, cond, Option, Some, None, List, [], ◌∷◌, ◌++◌, length, Ok, Err, refl, sym, ap, subst, ◌⊎◌, inl, inr}
 use Rattle.std.specs.Bool.{Decides}
 use Rattle.std.specs.List.Sorted.{IsStrictlySortedBy}
 use Rattle.std.specs.Ordering.{is_lt}
 use Rattle.std.specs.declared.cmp.Ordering.{Ordering}
 use Rattle.std.specs.declared.cmp.Ordering.TheVariants as order
 use Rattle.std.proofs.lemmas.Bool.Decides.{not_from_Decides}
-use Rattle.std.proofs.lemmas.List.{get_or_default}
 use Rattle.geo_base.specs.declared.cell.Cell.{Cell}
 use Rattle.geo_base.specs.declared.limits.TheConstants.{MAX_SET_ROWS}
 use Rattle.geo_base.specs.declared.row_id.RowId.{RowId}
 use Rattle.geo_base.specs.Order.{row_cmp}
-use Rattle.geo_base.specs.laws.Results.{done, lost, ok_is, fault_is, not_done}
 use Rattle.geo_schema.specs.declared.table.TableDef.{TableDef}
-use Rattle.geo_schema.specs.Rows.{IsRow}
 use Rattle.geo_schema.specs.Schemas.{IsSchema, table_at, no_table}
 use Rattle.geo_schema.specs.Tables.{IsTable}
 use Rattle.row_codec.specs.Parts.{FirstOrLater}
@@ -32,7 +29,7 @@ use Rattle.set_codec.specs.declared.kind.Kind.TheVariants as kind
 use Rattle.set_codec.specs.Faults.{IsTableFault, IsKindFault, IsKeyFault, IsRowFault, IsDoneFault, IsChangeFault, IsChangesFault}
 use Rattle.set_codec.specs.Fits.{FitsKey, FitsTable, HasCells}
 use Rattle.set_codec.specs.Rules.{IsAfter}
-use Rattle.set_codec.specs.Spelling.{kind_byte, other_cells, change_spelling, changes_spelling}
+use Rattle.set_codec.specs.Spelling.{other_cells, change_spelling, changes_spelling}
 use Rattle.set_codec.specs.Standing.{TableStands, KindStands, KeyStands, RowStands, AreAfter, row_before, ChangesStand}
 use Rattle.set_codec.specs.inner.Reading.{is_after, table_no_at, kind_at, key_at, row_at, done_at, change_at, row_behind, changes_at}
 use Rattle.set_codec.specs.laws.Fields.{table_tells, kind_tells}

@@ -1,5 +1,5 @@
 -- Laws: what reading fields that have a rule tells.
-use Rattle.std.proofs.Common.{◌≡◌, ℕ, ◌+◌, ◌<◌, ◌≤◌, Bool, true, false, not, ◌&&◌, cond, eqb, ltb, leb, nat_eq, Option, Some, None, List, length, Result, Ok, Err, refl, sym, ap, subst, ◌∙◌, ◌⊎◌, inl, inr, arith}
+use Rattle.std.proofs.Common.{◌≡◌, ℕ, ◌+◌, ◌≤◌, Bool, false, ◌&&◌, cond, eqb, ltb, leb, nat_eq, Option, Some, None, List, length, Ok, Err, refl, sym, ap, subst, ◌⊎◌, inl, inr}
 use Rattle.std.specs.Bool.{Decides}
 use Rattle.std.specs.Cmp.Lexicographic.{pointwise}
 use Rattle.std.specs.Int.{w32}
@@ -11,7 +11,7 @@ use Rattle.geo_base.specs.laws.Orders.{text_eq_decides}
 use Rattle.geo_base.specs.laws.Results.{done, lost, ok_is, fault_is, not_done, chosen}
 use Rattle.geo_schema.specs.declared.table.TableDef.{TableDef}
 use Rattle.row_codec.specs.Fields.{field_at, byte_at, number_at, IsCut, FieldStands, ByteStands, NumberStands}
-use Rattle.row_codec.specs.Parts.{FirstOrLater, Keeps, Breaks}
+use Rattle.row_codec.specs.Parts.{Keeps, Breaks}
 use Rattle.row_codec.specs.Places.{AreBytes}
 use Rattle.row_codec.specs.laws.Fields.{wide32, field_tells, byte_tells, number_tells}
 use Rattle.row_codec.specs.laws.Tells.{Tells, tells_as, tells_done, tells_then, tells_kept, tells_rule}

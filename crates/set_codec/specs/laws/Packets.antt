@@ -1,14 +1,14 @@
 -- Laws: what reading packets tells, and that no spelling of one begins another's.
-use Rattle.std.proofs.Common.{◌≡◌, ℕ, ◌+◌, ◌-◌, ◌<◌, ◌≤◌, true, false, cond, eqb, Option, Some, None, List, [], ◌∷◌, ◌++◌, length, get_or, take, drop, Result, Ok, Err, refl, sym, ap, subst, ◌∙◌, ◌⊎◌, inl, inr, arith}
+use Rattle.std.proofs.Common.{◌≡◌, ℕ, ◌<◌, ◌≤◌, cond, eqb, Some, List, [], ◌∷◌, ◌++◌, length, get_or, take, drop, Ok, Err, refl, sym, ap, subst, ◌∙◌, ◌⊎◌, inl, inr, arith}
 use Rattle.std.specs.Int.{w32, from_be_bytes}
 use Rattle.std.proofs.lemmas.Bool.{eqb-true, eqb-false, ne_eqb}
 use Rattle.std.proofs.lemmas.Nat.{from_be_bytes-to_be_bytes_4}
 use Rattle.geo_base.specs.declared.limits.TheConstants.{MAX_REGIONS, LAST_EPOCH}
-use Rattle.geo_base.specs.laws.Results.{done, lost, fault_is, not_done, chosen}
+use Rattle.geo_base.specs.laws.Results.{lost, fault_is, not_done, chosen}
 use Rattle.geo_schema.specs.declared.table.TableDef.{TableDef}
 use Rattle.geo_schema.specs.Schemas.{IsSchema}
 use Rattle.row_codec.specs.Fields.{byte_at, IsCut, ByteStands}
-use Rattle.row_codec.specs.Parts.{FirstOrLater, Breaks}
+use Rattle.row_codec.specs.Parts.{FirstOrLater}
 use Rattle.row_codec.specs.Places.{AreBytes, StandsAt}
 use Rattle.row_codec.specs.laws.Fields.{byte_tells}
 use Rattle.row_codec.specs.laws.Places.{stands_together, front_stands, rest_stands, whole_stands, rest_is}
@@ -20,7 +20,7 @@ use Rattle.set_codec.specs.declared.packet.Packet.{Packet}
 use Rattle.set_codec.specs.declared.packet.Packet.TheVariants as packet
 use Rattle.set_codec.specs.Alone.{SpellsPacket, OnePacketOrFault, NoPacketBeginsAnother}
 use Rattle.set_codec.specs.Faults.{IsRegionFault, IsOtherFault, IsEpochFault, IsTrailing, IsBatchFaultAt, IsFetchFault, IsPacketFaultAt, IsPacketFault}
-use Rattle.set_codec.specs.Fits.{FitsRegions, FitsPacket}
+use Rattle.set_codec.specs.Fits.{FitsPacket}
 use Rattle.set_codec.specs.Rules.{IsEnd, IsPacketKind}
 use Rattle.set_codec.specs.Spelling.{number_spelling, batch_spelling, packet_spelling}
 use Rattle.set_codec.specs.Standing.{RegionStands, OtherStands, EpochStands}

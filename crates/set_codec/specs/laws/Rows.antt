@@ -1,7 +1,6 @@
 -- Laws: what reading the cells of keys and rows tells.
-use Rattle.std.proofs.Common.{◌≡◌, ℕ, zero, suc, ◌+◌, ◌<◌, ◌≤◌, Bool, true, false, cond, Option, Some, None, is_none, position, nat_eq, List, [], ◌∷◌, ◌++◌, length, get_or, map, Result, Ok, Err, refl, sym, ap, subst, ◌∙◌, ◌⊎◌, inl, inr, zero-add, add-zero, arith}
+use Rattle.std.proofs.Common.{◌≡◌, ℕ, zero, suc, ◌+◌, ◌<◌, ◌≤◌, Bool, true, false, cond, Option, Some, None, is_none, List, [], ◌∷◌, ◌++◌, length, get_or, map, Result, Ok, Err, refl, sym, ap, subst, ◌∙◌, zero-add, add-zero, arith}
 use Rattle.std.specs.Bool.{Decides}
-use Rattle.std.specs.List.{slice_get}
 use Rattle.std.proofs.lemmas.Bool.{both_ways}
 use Rattle.std.proofs.lemmas.List.{ext_get_or, length-map, get_or-map}
 use Rattle.std.proofs.lemmas.List.Elements.{All-from_recursion}
@@ -13,12 +12,12 @@ use Rattle.geo_base.specs.laws.Results.{done, lost, ok_is, fault_is, not_done}
 use Rattle.geo_schema.specs.declared.column.ColumnDef.{ColumnDef}
 use Rattle.geo_schema.specs.declared.fault.CellFault.{CellFault}
 use Rattle.geo_schema.specs.declared.table.TableDef.{TableDef}
-use Rattle.geo_schema.specs.Rows.{is_in, Suits, IsRow, key_cells}
+use Rattle.geo_schema.specs.Rows.{is_in, Suits, IsCause, IsRow, key_cells}
 use Rattle.geo_schema.specs.Tables.{IsTable}
 use Rattle.geo_schema.specs.inner.Rows.{cell_fault}
-use Rattle.geo_schema.specs.laws.Fits.{suits, suits_faultless}
+use Rattle.geo_schema.specs.laws.Fits.{suits, found_cause}
+pub use Rattle.geo_schema.specs.laws.Fits.{suits_faultless}
 use Rattle.row_codec.specs.declared.fault.CellReadFault.{CellReadFault}
-use Rattle.row_codec.specs.Parts.{Keeps, IsFaultOfThings}
 use Rattle.row_codec.specs.Places.{AreBytes, StandsAt}
 use Rattle.row_codec.specs.Spelling.{cell_spelling, cells_spelling, IsCell, AreCells, CellStands}
 use Rattle.row_codec.specs.inner.Reading.{cell_at}
@@ -45,6 +44,10 @@ pub columns_are_some : (table : TableDef) → IsTable table → 1 ≤ length tab
 columns_are_some table rules = rules.some
 
 -- ---- one cell
+
+-- a cell that has a fault isn't taken
+pub cause_faulty : (key : List ℕ) (column : ColumnDef) (place : ℕ) (c : Cell) (why : CellFault) → IsCause key column place c why → is_none (cell_fault key column place c) ≡ false
+cause_faulty key column place c why cause = ap is_none (found_cause key column place c why cause)
 
 decides_none : (o : Option CellFault) → Decides (is_none o) (o ≡ None)
 decides_none None = (λ _. refl, λ _. refl)

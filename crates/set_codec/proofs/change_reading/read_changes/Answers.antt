@@ -1,8 +1,8 @@
-use Rattle.std.proofs.Common.{◌≡◌, Some, refl, sym, ap, subst, ◌∙◌}
+use Rattle.std.proofs.Common.{ap, ◌∙◌}
 use Rattle.std.specs.Option.{option_copied}
 use Rattle.std.proofs.lemmas.Result.{err_from_is_err_and}
 use Rattle.row_codec.specs.laws.Things.{goes_on, fails, is_done}
-use Rattle.set_codec.specs.inner.Reading.{change_at, row_behind, last_row, changes_at}
+use Rattle.set_codec.specs.inner.Reading.{change_at, row_behind, last_row}
 use Rattle.set_codec.proofs.Rows.{last_pushed, read_behind, fails_behind}
 use Rattle.set_codec.proofs.change_reading.read_changes.Goals as goal
 
