@@ -4,7 +4,7 @@ use Rattle.std.specs.Prelude.{sum_by, All, Contains, slice_index}
 use mathlib.Core.Option.{some}
 use lib.ListN.{get_elem?}
 use Rattle.claim_rule.specs.declared.view.ClaimView.{ClaimView}
-use Rattle.claim_rule.specs.Plan.{Plan, piece_of, top, word_on, best, final_of}
+use Rattle.claim_rule.specs.Plan.{Pieces, piece_of, top, word_on, best, final_of}
 use Rattle.claim_rule.specs.Views.{times}
 use Rattle.claim_rule.specs.Rule.{once_below, IsPlanned, Fits, IsRuled}
 use Rattle.claim_rule.proofs.Sums.{each_at, sum_at, sum_some}
@@ -16,7 +16,7 @@ use Rattle.claim_rule.proofs.Drawing.{once_there}
 best_among : (row : ℕ) (pairs claims : List (ℕ × ℕ)) → All (Contains claims) pairs → best row pairs ≤ best row claims
 best_among row pairs claims among = top_least (word_on row) pairs (best row claims) (λ i pair at. best_at claims row pair (each_at (Contains claims) pairs i pair among at))
 
-module _ (rows : ℕ) (plan : Plan) (claimed done judged : ℕ) (headers : List ℕ) (views : List ClaimView) (r : IsRuled rows plan claimed done judged headers views) where
+module _ (rows : ℕ) (plan : Pieces) (claimed done judged : ℕ) (headers : List ℕ) (views : List ClaimView) (r : IsRuled rows plan claimed done judged headers views) where
   pub fits_at : (id : ℕ) (v : ClaimView) → get_elem? views id ≡ some v → Fits plan done v
   fits_at id v at = each_at (Fits plan done) views id v r.fits at
 

@@ -8,7 +8,7 @@ use native.Mathlib.Decide.{ℕ_discrete}
 use lib.ListN.{get_elem?}
 use Rattle.claim_rule.specs.declared.view.Draws.{Draws}
 use Rattle.claim_rule.specs.declared.view.ClaimView.{ClaimView}
-use Rattle.claim_rule.specs.Plan.{Plan, piece_of, word_on, best}
+use Rattle.claim_rule.specs.Plan.{Pieces, piece_of, word_on, best}
 use Rattle.claim_rule.specs.Views.{times, claim_drawn, row_claimed, piece_finished, done_seen, judge_drawn}
 use Rattle.claim_rule.specs.Rule.{IsPlanned, Fits, AreDrawn, IsRuled}
 use Rattle.claim_rule.proofs.Sums.{each_at, sum_set, sum_set_same}
@@ -19,7 +19,7 @@ use Rattle.claim_rule.proofs.Drawing.{drawn_same, drawn_some, drawn_none, drawn_
 use Rattle.claim_rule.proofs.Finals.{undone}
 
 -- a view with shares isn't the spent one
-pub some_shares : (v : ClaimView) (plan : Plan) (done : ℕ) → Fits plan done v → 0 < length v.pending → 0 < v.shares
+pub some_shares : (v : ClaimView) (plan : Pieces) (done : ℕ) → Fits plan done v → 0 < length v.pending → 0 < v.shares
 some_shares v plan done fits pending = by v.shares refl
   where
     by : (n : ℕ) → v.shares ≡ n → 0 < v.shares
@@ -27,10 +27,10 @@ some_shares v plan done fits pending = by v.shares refl
     by (suc n) is = omega arith
 
 -- a pair stays planned where more is drawn
-planned_more : (plan : Plan) (v w : ClaimView) → ((x : ℕ) → times x v.claiming.numbers ≤ times x w.claiming.numbers) → (claims : List (ℕ × ℕ)) → All (IsPlanned plan v) claims → All (IsPlanned plan w) claims
+planned_more : (plan : Pieces) (v w : ClaimView) → ((x : ℕ) → times x v.claiming.numbers ≤ times x w.claiming.numbers) → (claims : List (ℕ × ℕ)) → All (IsPlanned plan v) claims → All (IsPlanned plan w) claims
 planned_more plan v w more claims all = All-weaker (IsPlanned plan v) (IsPlanned plan w) (λ pair p. (p.0, (let m = more p.0 in let d = p.1 in omega arith), p.2)) claims all
 
-module _ (rows : ℕ) (plan : Plan) (claimed done judged : ℕ) (headers : List ℕ) (views : List ClaimView) (r : IsRuled rows plan claimed done judged headers views) (id : ℕ) (v : ClaimView) (at : get_elem? views id ≡ some v) where
+module _ (rows : ℕ) (plan : Pieces) (claimed done judged : ℕ) (headers : List ℕ) (views : List ClaimView) (r : IsRuled rows plan claimed done judged headers views) (id : ℕ) (v : ClaimView) (at : get_elem? views id ≡ some v) where
   mine : Fits plan done v
   mine = each_at (Fits plan done) views id v r.fits at
 

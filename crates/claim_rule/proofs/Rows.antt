@@ -2,12 +2,12 @@
 use Rattle.std.proofs.Common.{ℕ, zero, suc, ◌<◌, [], ◌∷◌}
 use Rattle.std.specs.Prelude.{All}
 use Rattle.std.proofs.lemmas.List.Elements.{All-contains, All-nil, All-head, All-tail}
-use Rattle.claim_rule.specs.Plan.{Plan, piece_of}
+use Rattle.claim_rule.specs.Plan.{Pieces, piece_of}
 use Rattle.claim_rule.specs.declared.table.ClaimTable.{ClaimTable}
 use Rattle.claim_rule.specs.declared.seat.ClaimSeat.{ClaimSeat}
 use Rattle.claim_rule.specs.Seats.{view_of, IsSeatOf, IsOwed}
 
-all_of_piece : (P : ℕ × ℕ → Type 0) (plan : Plan) (x : ℕ) → All (All P) plan → All P (piece_of plan x)
+all_of_piece : (P : ℕ × ℕ → Type 0) (plan : Pieces) (x : ℕ) → All (All P) plan → All P (piece_of plan x)
 all_of_piece P [] x all = All-nil P
 all_of_piece P (p ∷ ps) zero all = All-head (All P) p ps all
 all_of_piece P (p ∷ ps) (suc x) all = all_of_piece P ps x (All-tail (All P) p ps all)

@@ -8,7 +8,7 @@ use lib.ListN.{get_elem?, get_or-replicate, length-replicate}
 use Rattle.atomic_table.proofs.Lists.{at_set, set_here}
 use Rattle.claim_rule.specs.declared.view.Draws.{Draws}
 use Rattle.claim_rule.specs.declared.view.ClaimView.{ClaimView}
-use Rattle.claim_rule.specs.Plan.{Plan, piece_of, word_on, best}
+use Rattle.claim_rule.specs.Plan.{Pieces, piece_of, word_on, best}
 use Rattle.claim_rule.specs.Views.{times, no_draws, fresh, spent_view, shares_kept, shares_given, views_joined}
 use Rattle.claim_rule.specs.Rule.{once_below, IsFinished, IsPlanned, Fits, AreDrawn, IsRuled}
 use Rattle.claim_rule.proofs.Sums.{each_at, sum_joined, sum_split}
@@ -18,7 +18,7 @@ use Rattle.claim_rule.proofs.Tops.{top_joined, top_split}
 use Rattle.claim_rule.proofs.Drawing.{drawn_joined, drawn_split}
 
 -- a view that has done nothing
-fresh_fits : (plan : Plan) (done shares : ℕ) (flag : Bool) → 0 < shares → (flag ≡ true → done ≡ length plan) → Fits plan done (fresh plan shares flag)
+fresh_fits : (plan : Pieces) (done shares : ℕ) (flag : Bool) → 0 < shares → (flag ≡ true → done ≡ length plan) → Fits plan done (fresh plan shares flag)
 fresh_fits plan done shares flag some_share stable = record {
   opened = refl;
   same = λ _. refl;
@@ -32,7 +32,7 @@ fresh_fits plan done shares flag some_share stable = record {
   late_judging = omega arith;
 }
 
-spent_fits : (plan : Plan) (done : ℕ) → Fits plan done spent_view
+spent_fits : (plan : Pieces) (done : ℕ) → Fits plan done spent_view
 spent_fits plan done = record {
   opened = refl;
   same = λ more. absurd (omega arith);
@@ -46,7 +46,7 @@ spent_fits plan done = record {
   late_judging = omega arith;
 }
 
-module _ (rows : ℕ) (plan : Plan) (claimed done judged : ℕ) (headers : List ℕ) (views : List ClaimView) (r : IsRuled rows plan claimed done judged headers views) (id : ℕ) (v : ClaimView) (at : get_elem? views id ≡ some v) where
+module _ (rows : ℕ) (plan : Pieces) (claimed done judged : ℕ) (headers : List ℕ) (views : List ClaimView) (r : IsRuled rows plan claimed done judged headers views) (id : ℕ) (v : ClaimView) (at : get_elem? views id ≡ some v) where
   mine : Fits plan done v
   mine = each_at (Fits plan done) views id v r.fits at
 
@@ -70,7 +70,7 @@ module _ (rows : ℕ) (plan : Plan) (claimed done judged : ℕ) (headers : List 
               late_claiming = omega arith;
               late_judging = omega arith;
             } r.fits)
-            (subst (λ (p : Plan). Fits plan done (fresh p part v.stable)) (sym (mine.same some_share)) (fresh_fits plan done part v.stable some_part mine.stable));
+            (subst (λ (p : Pieces). Fits plan done (fresh p part v.stable)) (sym (mine.same some_share)) (fresh_fits plan done part v.stable some_part mine.stable));
         claiming = drawn_split claimed (length plan) (λ u. u.claiming) views r.claiming id v left right at refl refl refl;
         judging = drawn_split judged (length plan) (λ u. u.judging) views r.judging id v left right at refl refl refl;
         finished =
@@ -171,7 +171,7 @@ module _ (rows : ℕ) (plan : Plan) (claimed done judged : ℕ) (headers : List 
       }
 
 -- the table with its first view
-pub opens : (rows : ℕ) (plan : Plan) (shares : ℕ) → length plan < 2 ^ 32 → 0 < shares → shares ≤ 8 → IsRuled rows plan 0 0 0 (replicate rows 0) (fresh plan shares false ∷ [])
+pub opens : (rows : ℕ) (plan : Pieces) (shares : ℕ) → length plan < 2 ^ 32 → 0 < shares → shares ≤ 8 → IsRuled rows plan 0 0 0 (replicate rows 0) (fresh plan shares false ∷ [])
 opens rows plan shares few some_share most =
     let drawn : (draws : ClaimView → Draws) → draws (fresh plan shares false) ≡ no_draws → AreDrawn 0 (length plan) draws (fresh plan shares false ∷ []) =
     (λ (draws : ClaimView → Draws) (none : draws (fresh plan shares false) ≡ no_draws). record {

@@ -9,7 +9,7 @@ use lib.Seq.{set-get_or}
 use Rattle.atomic_table.specs.Table.{step, keeps, Allows, Splits, Joins, opening}
 use Rattle.atomic_table.proofs.Lists.{set_again}
 use Rattle.claim_rule.specs.declared.view.ClaimView.{ClaimView}
-use Rattle.claim_rule.specs.Plan.{Plan, piece_of, final_of}
+use Rattle.claim_rule.specs.Plan.{Pieces, piece_of, final_of}
 use Rattle.claim_rule.specs.Views.{fresh, closed_view, spent_view, claim_drawn, row_claimed, piece_finished, done_seen, judge_drawn, shares_kept, shares_given, views_joined}
 use Rattle.claim_rule.specs.Rule.{Fits, IsRuled, IsClosed, IsOpen, Holds}
 use Rattle.claim_rule.specs.Seats.{IsOwed, IsClaimed, IsOnce}
@@ -28,7 +28,7 @@ unmoved : (headers : List ℕ) (row : ℕ) → set headers row (slice_index head
 unmoved headers row = set-get_or headers row 0
 
 module _ (rows slots id : ℕ) (me : Seated) (opened : me.0.closed ≡ false) (some_share : 0 < me.0.shares) where
-  module _ (views : List ClaimView) (plan : Plan) (claimed done judged : ℕ) (headers : List ℕ) (r : IsRuled rows plan claimed done judged headers views) (at : get_elem? views id ≡ some me.0) where
+  module _ (views : List ClaimView) (plan : Pieces) (claimed done judged : ℕ) (headers : List ℕ) (r : IsRuled rows plan claimed done judged headers views) (at : get_elem? views id ≡ some me.0) where
     fits : Fits plan done me.0
     fits = fits_at rows plan claimed done judged headers views r id me.0 at
 
@@ -53,11 +53,11 @@ module _ (rows slots id : ℕ) (me : Seated) (opened : me.0.closed ≡ false) (s
     claim_told unspent = (
       claim_drawn (drawn_at claimed (length me.0.plan)) me.0,
       subst (λ (n : ℕ). IsRuled rows plan n done judged headers (set views id (claim_drawn (drawn_at claimed (length me.0.plan)) me.0))) (sym (wraps_not claimed (length plan) claimed_small r.few))
-          (subst (λ (p : Plan). IsRuled rows plan (claimed + 1) done judged headers (set views id (claim_drawn (drawn_at claimed (length p)) me.0))) (sym known) (claim_ruled unspent (nat_lt claimed (length plan)) refl)),
+          (subst (λ (p : Pieces). IsRuled rows plan (claimed + 1) done judged headers (set views id (claim_drawn (drawn_at claimed (length p)) me.0))) (sym known) (claim_ruled unspent (nat_lt claimed (length plan)) refl)),
       record {
         leaves = refl;
-        new = λ below. drawn_new claimed (length plan) (λ u. u.claiming) views r.claiming id me.0 at (subst (λ (p : Plan). claimed < length p) known below);
-        room = λ below. subst (λ (p : Plan). length me.0.claiming.numbers < length p) (sym known) (drawn_room claimed (length plan) (λ u. u.claiming) views r.claiming id me.0 at (subst (λ (p : Plan). claimed < length p) known below));
+        new = λ below. drawn_new claimed (length plan) (λ u. u.claiming) views r.claiming id me.0 at (subst (λ (p : Pieces). claimed < length p) known below);
+        room = λ below. subst (λ (p : Pieces). length me.0.claiming.numbers < length p) (sym known) (drawn_room claimed (length plan) (λ u. u.claiming) views r.claiming id me.0 at (subst (λ (p : Pieces). claimed < length p) known below));
       },
     )
 
@@ -65,11 +65,11 @@ module _ (rows slots id : ℕ) (me : Seated) (opened : me.0.closed ≡ false) (s
     judge_told flag unspent = (
       judge_drawn (drawn_at judged (length me.0.plan)) me.0,
       subst (λ (n : ℕ). IsRuled rows plan claimed done n headers (set views id (judge_drawn (drawn_at judged (length me.0.plan)) me.0))) (sym (wraps_not judged (length plan) judged_small r.few))
-          (subst (λ (p : Plan). IsRuled rows plan claimed done (judged + 1) headers (set views id (judge_drawn (drawn_at judged (length p)) me.0))) (sym known) (judge_ruled flag unspent (nat_lt judged (length plan)) refl)),
+          (subst (λ (p : Pieces). IsRuled rows plan claimed done (judged + 1) headers (set views id (judge_drawn (drawn_at judged (length p)) me.0))) (sym known) (judge_ruled flag unspent (nat_lt judged (length plan)) refl)),
       record {
         leaves = refl;
-        new = λ below. drawn_new judged (length plan) (λ u. u.judging) views r.judging id me.0 at (subst (λ (p : Plan). judged < length p) known below);
-        room = λ below. subst (λ (p : Plan). length me.0.judging.numbers < length p) (sym known) (drawn_room judged (length plan) (λ u. u.judging) views r.judging id me.0 at (subst (λ (p : Plan). judged < length p) known below));
+        new = λ below. drawn_new judged (length plan) (λ u. u.judging) views r.judging id me.0 at (subst (λ (p : Pieces). judged < length p) known below);
+        room = λ below. subst (λ (p : Pieces). length me.0.judging.numbers < length p) (sym known) (drawn_room judged (length plan) (λ u. u.judging) views r.judging id me.0 at (subst (λ (p : Pieces). judged < length p) known below));
       },
     )
 
@@ -78,14 +78,14 @@ module _ (rows slots id : ℕ) (me : Seated) (opened : me.0.closed ≡ false) (s
       piece_finished piece me.0,
       subst (λ (n : ℕ). IsRuled rows plan claimed n judged headers (set views id (piece_finished piece me.0)))
           (sym (wraps_not done (length plan) (let most = done_within rows plan claimed done judged headers views r in omega arith) r.few))
-          (finish rows plan claimed done judged headers views r id me.0 at piece claims.pending (subst (λ (p : Plan). All (Contains me.0.claims) (piece_of p piece)) known claims.made)),
+          (finish rows plan claimed done judged headers views r id me.0 at piece claims.pending (subst (λ (p : Pieces). All (Contains me.0.claims) (piece_of p piece)) known claims.made)),
       refl,
     )
 
     pub row_told : (row word : ℕ) → row < rows → IsOwed me.0 row word → (w : ClaimView) × IsRuled rows plan claimed done judged (set headers row (max (slice_index headers row) word)) (set views id w) × ◌≡◌ {A = Seated} (w, me.1) (row_claimed row word me.0, me.1)
     row_told row word within owed = (
       row_claimed row word me.0,
-      claim_row rows plan claimed done judged headers views r id me.0 at row word within owed.piece owed.pending (subst (λ (p : Plan). Contains (piece_of p owed.piece) (row, word)) known owed.planned),
+      claim_row rows plan claimed done judged headers views r id me.0 at row word within owed.piece owed.pending (subst (λ (p : Pieces). Contains (piece_of p owed.piece) (row, word)) known owed.planned),
       refl,
     )
 
@@ -97,7 +97,7 @@ module _ (rows slots id : ℕ) (me : Seated) (opened : me.0.closed ≡ false) (s
           see_done rows plan claimed done judged headers views r id me.0 at some_share,
           record {
             leaves = refl;
-            within = subst (λ (p : Plan). done ≤ length p) (sym known) most;
+            within = subst (λ (p : Pieces). done ≤ length p) (sym known) most;
             small = omega arith;
             still = λ on. fits.stable on ∙ ap length (sym known);
           },
@@ -110,7 +110,7 @@ module _ (rows slots id : ℕ) (me : Seated) (opened : me.0.closed ≡ false) (s
     header_told row within flag = (
       me.0,
       subst (λ (hs : List ℕ). IsRuled rows plan claimed done judged hs (set views id me.0)) (sym (unmoved headers row)) same_views,
-      (refl, header_final rows plan claimed done judged headers views r (fits.stable flag) row within ∙ ap (λ (p : Plan). final_of p row) (sym known)),
+      (refl, header_final rows plan claimed done judged headers views r (fits.stable flag) row within ∙ ap (λ (p : Pieces). final_of p row) (sym known)),
     )
 
     pub once_told : (w : ClaimView) × IsRuled rows plan claimed done judged headers (set views id w) × ((◌≡◌ {A = Seated} (w, me.1) me) × IsOnce me.0)
@@ -171,7 +171,7 @@ joins rows id v other w opened some_share other_share = joins_by rows id v other
 pub begins : (rows : ℕ) (words : List ℕ) → words ≡ 0 ∷ 0 ∷ 0 ∷ replicate rows 0 → Holds rows (opening words [] closed_view)
 begins rows words are = inl record { words = are; views = refl }
 
-pub opens_as : (rows slots id : ℕ) (me : Seated) (plan : Plan) (shares : ℕ) → me.0 ≡ closed_view → length plan < 2 ^ 32 → 0 < shares → shares ≤ 8
+pub opens_as : (rows slots id : ℕ) (me : Seated) (plan : Pieces) (shares : ℕ) → me.0 ≡ closed_view → length plan < 2 ^ 32 → 0 < shares → shares ≤ 8
     → Allows (Holds rows) slots id me 0 (λ n. n) (λ found now. now ≡ (fresh plan shares false, me.1))
 opens_as rows slots id me plan shares closed few some_share most s holds deep at small = ⊎_elim
     (λ (c : IsClosed rows s).

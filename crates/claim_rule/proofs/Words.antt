@@ -6,7 +6,7 @@ use mathlib.Core.Option as maybe
 use lib.ListN.{get_elem?}
 use Rattle.atomic_table.specs.Table.{Act, keeps, Valid, homes_after, carried_after, Allows, Splits, Joins}
 use Rattle.claim_rule.specs.declared.view.ClaimView.{ClaimView}
-use Rattle.claim_rule.specs.Plan.{Plan}
+use Rattle.claim_rule.specs.Plan.{Pieces}
 use Rattle.claim_rule.specs.Views.{closed_view}
 use Rattle.claim_rule.specs.Rule.{IsRuled, IsClosed, IsOpen, Holds}
 use Rattle.claim_rule.specs.inner.Steps.{Seated}
@@ -27,11 +27,11 @@ module _ (rows id : ℕ) (me : Seated) where
       × then (slice_index words word) (w, carried_after me.1 a)
 
   -- the same where the words are known
-  abbrev Steps : List ClaimView → Plan → ℕ → ℕ → ℕ → List ℕ → ℕ → (ℕ → Seated → Type 0) → Type 0
+  abbrev Steps : List ClaimView → Pieces → ℕ → ℕ → ℕ → List ℕ → ℕ → (ℕ → Seated → Type 0) → Type 0
   Steps views plan claimed done judged headers found then = (w : ClaimView) × IsRuled rows plan claimed done judged headers (set views id w) × then found (w, me.1)
 
   on_open : (slots word : ℕ) (f : ℕ → ℕ) (then : ℕ → Seated → Type 0) → me.0.closed ≡ false
-      → ((homes : List (maybe.Option (Unit {0}))) (views : List ClaimView) (plan : Plan) (claimed done judged : ℕ) (headers : List ℕ) → IsRuled rows plan claimed done judged headers views → get_elem? views id ≡ some me.0
+      → ((homes : List (maybe.Option (Unit {0}))) (views : List ClaimView) (plan : Pieces) (claimed done judged : ℕ) (headers : List ℕ) → IsRuled rows plan claimed done judged headers views → get_elem? views id ≡ some me.0
       → Goes homes views word f then (claimed ∷ done ∷ judged ∷ headers))
       → Allows (Holds rows) slots id me word f then
   on_open slots word f then opened go s holds deep at fits = ⊎_elim
@@ -40,7 +40,7 @@ module _ (rows id : ℕ) (me : Seated) where
       holds
 
   pub on_claimed : (slots word : ℕ) (f : ℕ → ℕ) (then : ℕ → Seated → Type 0) → word ≡ 0 → me.0.closed ≡ false
-      → ((views : List ClaimView) (plan : Plan) (claimed done judged : ℕ) (headers : List ℕ) → IsRuled rows plan claimed done judged headers views → get_elem? views id ≡ some me.0
+      → ((views : List ClaimView) (plan : Pieces) (claimed done judged : ℕ) (headers : List ℕ) → IsRuled rows plan claimed done judged headers views → get_elem? views id ≡ some me.0
       → Steps views plan (f claimed) done judged headers claimed then)
       → Allows (Holds rows) slots id me word f then
   on_claimed slots word f then first opened go = on_open slots word f then opened
@@ -50,7 +50,7 @@ module _ (rows id : ℕ) (me : Seated) where
       (step.0, keeps, tt, inr record { plan = plan; claimed = f claimed; done = done; judged = judged; headers = headers; words = refl; ruled = step.1 }, step.2))
 
   pub on_done : (slots word : ℕ) (f : ℕ → ℕ) (then : ℕ → Seated → Type 0) → word ≡ 1 → me.0.closed ≡ false
-      → ((views : List ClaimView) (plan : Plan) (claimed done judged : ℕ) (headers : List ℕ) → IsRuled rows plan claimed done judged headers views → get_elem? views id ≡ some me.0
+      → ((views : List ClaimView) (plan : Pieces) (claimed done judged : ℕ) (headers : List ℕ) → IsRuled rows plan claimed done judged headers views → get_elem? views id ≡ some me.0
       → Steps views plan claimed (f done) judged headers done then)
       → Allows (Holds rows) slots id me word f then
   on_done slots word f then first opened go = on_open slots word f then opened
@@ -60,7 +60,7 @@ module _ (rows id : ℕ) (me : Seated) where
       (step.0, keeps, tt, inr record { plan = plan; claimed = claimed; done = f done; judged = judged; headers = headers; words = refl; ruled = step.1 }, step.2))
 
   pub on_judged : (slots word : ℕ) (f : ℕ → ℕ) (then : ℕ → Seated → Type 0) → word ≡ 2 → me.0.closed ≡ false
-      → ((views : List ClaimView) (plan : Plan) (claimed done judged : ℕ) (headers : List ℕ) → IsRuled rows plan claimed done judged headers views → get_elem? views id ≡ some me.0
+      → ((views : List ClaimView) (plan : Pieces) (claimed done judged : ℕ) (headers : List ℕ) → IsRuled rows plan claimed done judged headers views → get_elem? views id ≡ some me.0
       → Steps views plan claimed done (f judged) headers judged then)
       → Allows (Holds rows) slots id me word f then
   on_judged slots word f then first opened go = on_open slots word f then opened
@@ -70,7 +70,7 @@ module _ (rows id : ℕ) (me : Seated) where
       (step.0, keeps, tt, inr record { plan = plan; claimed = claimed; done = done; judged = f judged; headers = headers; words = refl; ruled = step.1 }, step.2))
 
   pub on_header : (slots word row : ℕ) (f : ℕ → ℕ) (then : ℕ → Seated → Type 0) → word ≡ row + 3 → me.0.closed ≡ false
-      → ((views : List ClaimView) (plan : Plan) (claimed done judged : ℕ) (headers : List ℕ) → IsRuled rows plan claimed done judged headers views → get_elem? views id ≡ some me.0
+      → ((views : List ClaimView) (plan : Pieces) (claimed done judged : ℕ) (headers : List ℕ) → IsRuled rows plan claimed done judged headers views → get_elem? views id ≡ some me.0
       → Steps views plan claimed done judged (set headers row (f (slice_index headers row))) (slice_index headers row) then)
       → Allows (Holds rows) slots id me word f then
   on_header slots word row f then behind opened go = on_open slots word f then opened
@@ -83,7 +83,7 @@ module _ (rows id : ℕ) (me : Seated) where
 -- ---- split and join
 
 pub splits_by : (rows id : ℕ) (v left right : ClaimView) → v.closed ≡ false
-    → ((views : List ClaimView) (plan : Plan) (claimed done judged : ℕ) (headers : List ℕ) → IsRuled rows plan claimed done judged headers views → get_elem? views id ≡ some v
+    → ((views : List ClaimView) (plan : Pieces) (claimed done judged : ℕ) (headers : List ℕ) → IsRuled rows plan claimed done judged headers views → get_elem? views id ≡ some v
     → IsRuled rows plan claimed done judged headers (set views id left ++ right ∷ []))
     → Splits (Holds rows) id v left right
 splits_by rows id v left right opened go s holds at = ⊎_elim
@@ -92,7 +92,7 @@ splits_by rows id v left right opened go s holds at = ⊎_elim
     holds
 
 pub joins_by : (rows id : ℕ) (v : ClaimView) (other : ℕ) (w both spent : ClaimView) → v.closed ≡ false
-    → ((views : List ClaimView) (plan : Plan) (claimed done judged : ℕ) (headers : List ℕ) → IsRuled rows plan claimed done judged headers views → get_elem? views id ≡ some v → other ≢ id → get_elem? (set views id both) other ≡ some w
+    → ((views : List ClaimView) (plan : Pieces) (claimed done judged : ℕ) (headers : List ℕ) → IsRuled rows plan claimed done judged headers views → get_elem? views id ≡ some v → other ≢ id → get_elem? (set views id both) other ≡ some w
     → IsRuled rows plan claimed done judged headers (set (set views id both) other spent))
     → Joins (Holds rows) id v other w both spent
 joins_by rows id v other w both spent opened go s holds at apart there = ⊎_elim

@@ -2,11 +2,11 @@
 use Rattle.std.specs.Prelude.{◌≡◌, ℕ, ◌<◌, max, List, [], ◌∷◌, All, length, slice_index_or, ◌==◌, if◌then◌else◌}
 
 -- for each piece its pairs of a row and a claim's word
-abbrev pub Plan : Type 0
-Plan = List (List (ℕ × ℕ))
+abbrev pub Pieces : Type 0
+Pieces = List (List (ℕ × ℕ))
 
 -- the pairs of a piece
-abbrev pub piece_of : Plan → ℕ → List (ℕ × ℕ)
+abbrev pub piece_of : Pieces → ℕ → List (ℕ × ℕ)
 piece_of plan piece = slice_index_or plan piece []
 
 -- the greatest value of f on the list, or 0
@@ -23,10 +23,10 @@ abbrev pub best : ℕ → List (ℕ × ℕ) → ℕ
 best row pairs = top (word_on row) pairs
 
 -- the greatest word that the plan has for the row, or 0
-abbrev pub final_of : Plan → ℕ → ℕ
+abbrev pub final_of : Pieces → ℕ → ℕ
 final_of plan row = top (best row) plan
 
 -- a plan of so many pieces, whose pairs are on so many rows
-pub record IsPlan (plan : Plan) (rows pieces : ℕ) : Type 0 where
+pub record IsPlan (plan : Pieces) (rows pieces : ℕ) : Type 0 where
   pub counted : length plan ≡ pieces
   pub within : All (All (λ pair. pair.0 < rows)) plan

@@ -6,7 +6,7 @@ use Rattle.atomic_table.specs.Table.{State}
 use Rattle.claim_rule.specs.declared.view.Draws.{Draws}
 use Rattle.claim_rule.specs.declared.view.ClaimView.{ClaimView}
 use Rattle.claim_rule.specs.declared.limits.TheConstants.{MAX_WORKERS}
-use Rattle.claim_rule.specs.Plan.{Plan, piece_of, top, best}
+use Rattle.claim_rule.specs.Plan.{Pieces, piece_of, top, best}
 use Rattle.claim_rule.specs.Views.{times, spent_view, closed_view}
 
 -- 1 for a number below n, and else 0
@@ -19,11 +19,11 @@ pub record IsFinished (v : ClaimView) (x : ℕ) : Type 0 where
   pub over : times x v.pending ≡ 0
 
 -- the plan has the pair for a number that the seat has drawn
-abbrev pub IsPlanned : Plan → ClaimView → ℕ × ℕ → Type 0
+abbrev pub IsPlanned : Pieces → ClaimView → ℕ × ℕ → Type 0
 IsPlanned plan v pair = (x : ℕ) × (0 < times x v.claiming.numbers) × Contains (piece_of plan x) pair
 
 -- what the rule says of one view, where the done word counts so many pieces
-pub record Fits (plan : Plan) (done : ℕ) (v : ClaimView) : Type 0 where
+pub record Fits (plan : Pieces) (done : ℕ) (v : ClaimView) : Type 0 where
   -- each view has the plan but a spent one, which has nothing
   pub opened : v.closed ≡ false
   pub same : 0 < v.shares → v.plan ≡ plan
@@ -48,7 +48,7 @@ pub record AreDrawn (counter n : ℕ) (draws : ClaimView → Draws) (views : Lis
   pub counted : sum_by (λ v. length (draws v).numbers + (draws v).spent) views ≡ counter
 
 -- the rule of a table with a plan
-pub record IsRuled (rows : ℕ) (plan : Plan) (claimed done judged : ℕ) (headers : List ℕ) (views : List ClaimView) : Type 0 where
+pub record IsRuled (rows : ℕ) (plan : Pieces) (claimed done judged : ℕ) (headers : List ℕ) (views : List ClaimView) : Type 0 where
   pub fits : All (Fits plan done) views
   -- the claim counter and the judge counter
   pub claiming : AreDrawn claimed (length plan) (λ v. v.claiming) views
@@ -69,7 +69,7 @@ pub record IsClosed (rows : ℕ) (s : State (Unit {0}) ClaimView) : Type 0 where
 
 -- the table has a plan
 pub record IsOpen (rows : ℕ) (s : State (Unit {0}) ClaimView) : Type 0 where
-  pub plan : Plan
+  pub plan : Pieces
   pub claimed : ℕ
   pub done : ℕ
   pub judged : ℕ

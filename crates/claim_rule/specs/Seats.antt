@@ -4,7 +4,7 @@ use Rattle.claim_rule.specs.declared.view.Draws.{Draws}
 use Rattle.claim_rule.specs.declared.view.ClaimView.{ClaimView}
 use Rattle.claim_rule.specs.declared.table.ClaimTable.{ClaimTable}
 use Rattle.claim_rule.specs.declared.seat.ClaimSeat.{ClaimSeat}
-use Rattle.claim_rule.specs.Plan.{Plan, piece_of, IsPlan}
+use Rattle.claim_rule.specs.Plan.{Pieces, piece_of, IsPlan}
 use Rattle.claim_rule.specs.Views.{times, fresh}
 
 -- what a seat knows
@@ -49,7 +49,7 @@ pub record AreApart (v w : ClaimView) : Type 0 where
   pub judging : (x : ℕ) → 0 < times x v.judging.numbers → times x w.judging.numbers ≡ 0
 
 -- a seat that knows the plan, has one share, and has done nothing
-pub record IsFreshSeatOf (table : ClaimTable) (plan : Plan) (seat : ClaimSeat) : Type 0 where
+pub record IsFreshSeatOf (table : ClaimTable) (plan : Pieces) (seat : ClaimSeat) : Type 0 where
   pub seated : IsSeatOf table seat
   pub idle : view_of seat ≡ fresh plan 1 false
 

@@ -2,7 +2,7 @@
 use Rattle.std.specs.Prelude.{ℕ, ◌+◌, ◌-◌, Bool, true, false, not, ◌==◌, ◌||◌, Option, Some, None, List, [], ◌∷◌, ◌++◌, length, count_by, filter}
 use Rattle.claim_rule.specs.declared.view.Draws.{Draws}
 use Rattle.claim_rule.specs.declared.view.ClaimView.{ClaimView}
-use Rattle.claim_rule.specs.Plan.{Plan}
+use Rattle.claim_rule.specs.Plan.{Pieces}
 
 -- how often the number stands in the list
 abbrev pub times : ℕ → List ℕ → ℕ
@@ -16,7 +16,7 @@ abbrev pub no_draws : Draws
 no_draws = record { numbers = []; spent = 0 }
 
 -- a seat that knows the plan and has done nothing
-abbrev pub fresh : Plan → ℕ → Bool → ClaimView
+abbrev pub fresh : Pieces → ℕ → Bool → ClaimView
 fresh plan shares stable = record { closed = false; plan = plan; shares = shares; claiming = no_draws; pending = []; claims = []; stable = stable; judging = no_draws }
 
 -- what a join leaves of the seat that was joined

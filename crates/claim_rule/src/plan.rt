@@ -3,9 +3,9 @@ use std::marker::Brand;
 
 /// Names the plan of a table: for each piece its pairs of a row and a claim's word.
 pub trait ClaimPlan {
-    ghost use Rattle.claim_rule.specs.Plan.{Plan};
+    ghost use Rattle.claim_rule.specs.Plan.{Pieces};
 
-    ghost plan: { Plan };
+    ghost plan: { Pieces };
 }
 
 impl ClaimPlan for Brand {
@@ -17,9 +17,9 @@ impl ClaimPlan for Brand {
 /// Names a plan, and how many shares the seat has that opens its table.
 pub(crate) trait Opening {
     ghost use Rattle.std.specs.Prelude.{ℕ};
-    ghost use Rattle.claim_rule.specs.Plan.{Plan};
+    ghost use Rattle.claim_rule.specs.Plan.{Pieces};
 
-    ghost plan: { Plan };
+    ghost plan: { Pieces };
 
     ghost shares: { ℕ };
 }

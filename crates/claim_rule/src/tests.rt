@@ -9,7 +9,7 @@ use crate::{ClaimPlan, ClaimSeat, ClaimTable};
 use std::test::Fail;
 use std::thread;
 
-/// Row 0 is claimed with 10, 12 and 3, row 1 with 7 and 5, and row 2 not at all.
+/// The first row is claimed with 10, 12 and 3, the second with 7 and 5, and the third not at all.
 struct ThreePieces;
 
 impl ClaimPlan for ThreePieces {

@@ -2,7 +2,7 @@
 use Rattle.std.specs.Prelude.{◌≡◌, ℕ, ◌+◌, ◌<◌, false, List, All, length}
 use Rattle.claim_rule.specs.declared.table.ClaimTable.{ClaimTable}
 use Rattle.claim_rule.specs.declared.seat.ClaimSeat.{ClaimSeat}
-use Rattle.claim_rule.specs.Plan.{Plan}
+use Rattle.claim_rule.specs.Plan.{Pieces}
 use Rattle.claim_rule.specs.Views.{closed_view, fresh}
 use Rattle.claim_rule.specs.Seats.{view_of, IsSeatOf, IsFreshSeatOf}
 
@@ -15,7 +15,7 @@ pub record IsClosedSeatOf (table : ClaimTable) (seat : ClaimSeat) : Type 0 where
   pub closed : view_of seat ≡ closed_view
 
 -- while seats are dealt: the first seat has the shares of the seats that are still to come
-pub record IsSharing (table : ClaimTable) (first : ClaimSeat) (plan : Plan) (workers left : ℕ) (seats : List ClaimSeat) : Type 0 where
+pub record IsSharing (table : ClaimTable) (first : ClaimSeat) (plan : Pieces) (workers left : ℕ) (seats : List ClaimSeat) : Type 0 where
   pub some : 0 < left
   pub seated : IsSeatOf table first
   pub view : view_of first ≡ fresh plan left false

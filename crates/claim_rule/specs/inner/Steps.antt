@@ -3,7 +3,7 @@ use Rattle.std.specs.Prelude.{◌≡◌, ℕ, ◌-◌, ◌^◌, ◌<◌, ◌≤�
 use Rattle.atomic_table.specs.Table.{Me, Step}
 use Rattle.claim_rule.specs.declared.view.Draws.{Draws}
 use Rattle.claim_rule.specs.declared.view.ClaimView.{ClaimView}
-use Rattle.claim_rule.specs.Plan.{Plan, final_of}
+use Rattle.claim_rule.specs.Plan.{Pieces, final_of}
 use Rattle.claim_rule.specs.Views.{times, fresh, claim_drawn, row_claimed, piece_finished, done_seen, judge_drawn}
 use Rattle.claim_rule.specs.Seats.{IsOnce}
 
@@ -46,5 +46,5 @@ ReadsHeader step me found now = (now ≡ me) × (found ≡ final_of me.0.plan (s
 abbrev pub Settles : Step (Unit {0}) → Seated → ℕ → Seated → Type 0
 Settles step me found now = (now ≡ me) × IsOnce me.0
 
-abbrev pub Opens : Plan → ℕ → Step (Unit {0}) → Seated → ℕ → Seated → Type 0
+abbrev pub Opens : Pieces → ℕ → Step (Unit {0}) → Seated → ℕ → Seated → Type 0
 Opens plan shares step me found now = now ≡ (fresh plan shares false, me.1)

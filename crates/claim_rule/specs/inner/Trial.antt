@@ -3,12 +3,12 @@ use Rattle.std.specs.Prelude.{◌≡◌, ℕ, ◌<◌, true, [], ◌∷◌, ◌+
 use Rattle.claim_rule.specs.declared.table.ClaimTable.{ClaimTable}
 use Rattle.claim_rule.specs.declared.seat.ClaimSeat.{ClaimSeat}
 use Rattle.claim_rule.specs.declared.view.ClaimView.{ClaimView}
-use Rattle.claim_rule.specs.Plan.{Plan, piece_of}
+use Rattle.claim_rule.specs.Plan.{Pieces, piece_of}
 use Rattle.claim_rule.specs.Views.{times}
 use Rattle.claim_rule.specs.Seats.{view_of, rows_of, IsSeatOf}
 
 -- three pieces on two of three rows
-abbrev pub three_pieces : Plan
+abbrev pub three_pieces : Pieces
 three_pieces = ((0, 10) ∷ (1, 7) ∷ []) ∷ ((0, 12) ∷ []) ∷ ((1, 5) ∷ (0, 3) ∷ []) ∷ []
 
 -- a seat of a table of this plan

@@ -4,7 +4,7 @@ use Rattle.std.specs.Prelude.{Contains, slice_index_or}
 use mathlib.Core.Option.{some, some-ne-none, some-injective}
 use native.Mathlib.Decide.{dec_le}
 use lib.ListN.{get_elem?}
-use Rattle.claim_rule.specs.Plan.{Plan, piece_of, top, word_on, best, final_of}
+use Rattle.claim_rule.specs.Plan.{Pieces, piece_of, top, word_on, best, final_of}
 
 module _ {A : Type 0} (f : A → ℕ) where
   pub top_at : (xs : List A) (i : ℕ) (v : A) → get_elem? xs i ≡ some v → f v ≤ top f xs
@@ -50,18 +50,18 @@ pub best_at : (pairs : List (ℕ × ℕ)) (row : ℕ) (pair : ℕ × ℕ) → Co
 best_at pairs row pair has = let at = contains_at pairs pair has in top_at (word_on row) pairs at.0 pair at.1
 
 -- the pieces of a plan
-pub piece_below : (plan : Plan) (x row : ℕ) → best row (piece_of plan x) ≤ final_of plan row
+pub piece_below : (plan : Pieces) (x row : ℕ) → best row (piece_of plan x) ≤ final_of plan row
 piece_below [] x row = omega arith
 piece_below (p ∷ ps) zero row = omega arith
 piece_below (p ∷ ps) (suc x) row = let rest = piece_below ps x row in omega arith
 
-pub piece_at : (plan : Plan) (x : ℕ) (pairs : List (ℕ × ℕ)) → get_elem? plan x ≡ some pairs → (piece_of plan x ≡ pairs) × (x < length plan)
+pub piece_at : (plan : Pieces) (x : ℕ) (pairs : List (ℕ × ℕ)) → get_elem? plan x ≡ some pairs → (piece_of plan x ≡ pairs) × (x < length plan)
 piece_at [] x pairs at = absurd (some-ne-none pairs (sym at))
 piece_at (p ∷ ps) zero pairs at = (some-injective p pairs at, omega arith)
 piece_at (p ∷ ps) (suc x) pairs at = let rest = piece_at ps x pairs at in (rest.0, let below = rest.1 in omega arith)
 
 -- a word that the plan has for a row is at most the final one
-pub word_below : (plan : Plan) (x row word : ℕ) → Contains (piece_of plan x) (row, word) → word ≤ final_of plan row
+pub word_below : (plan : Pieces) (x row word : ℕ) → Contains (piece_of plan x) (row, word) → word ≤ final_of plan row
 word_below plan x row word has =
     let on : word_on row (row, word) ≡ word = ap (λ (b : Bool). cond b word 0) (eq-eqb row row refl) in
     let low = best_at (piece_of plan x) row (row, word) has in
