@@ -29,11 +29,11 @@ module _ (counter n : ℕ) (draws : ClaimView → Draws) (views : List ClaimView
   drawn_same id v w at same = record {
     once = λ x. sum_set_same (λ u. times x (draws u).numbers) views id v w at (ap (λ (d : Draws). times x d.numbers) same) ∙ drawn.once x;
     drawn = sum_set_same (λ u. length (draws u).numbers) views id v w at (ap (λ (d : Draws). length d.numbers) same) ∙ drawn.drawn;
-    counted = sum_set_same (λ u. length (draws u).numbers + (draws u).spent) views id v w at (ap (λ (d : Draws). length d.numbers + d.spent) same) ∙ drawn.counted;
+    counted = sum_set_same (λ u. length (draws u).numbers + length (draws u).late) views id v w at (ap (λ (d : Draws). length d.numbers + length d.late) same) ∙ drawn.counted;
   }
 
   -- a draw that gives the number of the counter
-  pub drawn_some : (id : ℕ) (v w : ClaimView) → get_elem? views id ≡ some v → counter < n → draws w ≡ draws_after (Some counter) (draws v) → AreDrawn (counter + 1) n draws (set views id w)
+  pub drawn_some : (id : ℕ) (v w : ClaimView) → get_elem? views id ≡ some v → counter < n → draws w ≡ draws_after (Some counter) counter (draws v) → AreDrawn (counter + 1) n draws (set views id w)
   drawn_some id v w at below next = record {
     once = λ x.
         let moved = sum_set (λ u. times x (draws u).numbers) views id v w at in
@@ -50,15 +50,15 @@ module _ (counter n : ℕ) (draws : ClaimView → Draws) (views : List ClaimView
         let was = drawn.drawn in
         omega arith;
     counted =
-        let moved = sum_set (λ u. length (draws u).numbers + (draws u).spent) views id v w at in
-        let now : length (draws w).numbers + (draws w).spent ≡ length ((draws v).numbers ++ counter ∷ []) + (draws v).spent = ap (λ (d : Draws). length d.numbers + d.spent) next in
+        let moved = sum_set (λ u. length (draws u).numbers + length (draws u).late) views id v w at in
+        let now : length (draws w).numbers + length (draws w).late ≡ length ((draws v).numbers ++ counter ∷ []) + length (draws v).late = ap (λ (d : Draws). length d.numbers + length d.late) next in
         let more : length ((draws v).numbers ++ counter ∷ []) ≡ length (draws v).numbers + 1 = length-append (draws v).numbers (counter ∷ []) in
         let was = drawn.counted in
         omega arith;
   }
 
   -- a draw that comes too late
-  pub drawn_none : (id : ℕ) (v w : ClaimView) → get_elem? views id ≡ some v → n ≤ counter → draws w ≡ draws_after None (draws v) → AreDrawn (counter + 1) n draws (set views id w)
+  pub drawn_none : (id : ℕ) (v w : ClaimView) → get_elem? views id ≡ some v → n ≤ counter → draws w ≡ draws_after None counter (draws v) → AreDrawn (counter + 1) n draws (set views id w)
   drawn_none id v w at above next = record {
     once = λ x.
         let same = sum_set_same (λ u. times x (draws u).numbers) views id v w at (ap (λ (d : Draws). times x d.numbers) next) in
@@ -68,34 +68,35 @@ module _ (counter n : ℕ) (draws : ClaimView → Draws) (views : List ClaimView
         let was = drawn.drawn in
         omega arith;
     counted =
-        let moved = sum_set (λ u. length (draws u).numbers + (draws u).spent) views id v w at in
-        let now : length (draws w).numbers + (draws w).spent ≡ length (draws v).numbers + ((draws v).spent + 1) = ap (λ (d : Draws). length d.numbers + d.spent) next in
+        let moved = sum_set (λ u. length (draws u).numbers + length (draws u).late) views id v w at in
+        let now : length (draws w).numbers + length (draws w).late ≡ length (draws v).numbers + length ((draws v).late ++ counter ∷ []) = ap (λ (d : Draws). length d.numbers + length d.late) next in
+        let more : length ((draws v).late ++ counter ∷ []) ≡ length (draws v).late + 1 = length-append (draws v).late (counter ∷ []) in
         let was = drawn.counted in
         omega arith;
   }
 
   pub drawn_joined : (id other : ℕ) (v w both spent : ClaimView) → get_elem? views id ≡ some v → get_elem? (set views id both) other ≡ some w → draws both ≡ draws_joined (draws v) (draws w)
-      → (draws spent).numbers ≡ [] → (draws spent).spent ≡ 0 → AreDrawn counter n draws (set (set views id both) other spent)
-  drawn_joined id other v w both spent at there adds none zero = record {
+      → (draws spent).numbers ≡ [] → (draws spent).late ≡ [] → AreDrawn counter n draws (set (set views id both) other spent)
+  drawn_joined id other v w both spent at there adds none timely = record {
     once = λ x. sum_joined (λ u. times x (draws u).numbers) views id other v w both spent at there
         (ap (λ (d : Draws). times x d.numbers) adds ∙ times-append x (draws v).numbers (draws w).numbers)
         (ap (times x) none) ∙ drawn.once x;
     drawn = sum_joined (λ u. length (draws u).numbers) views id other v w both spent at there
         (ap (λ (d : Draws). length d.numbers) adds ∙ length-append (draws v).numbers (draws w).numbers)
         (ap length none) ∙ drawn.drawn;
-    counted = sum_joined (λ u. length (draws u).numbers + (draws u).spent) views id other v w both spent at there
-        (let now = ap (λ (d : Draws). length d.numbers + d.spent) adds in let more = length-append (draws v).numbers (draws w).numbers in omega arith)
-        (let empty = ap length none in omega arith) ∙ drawn.counted;
+    counted = sum_joined (λ u. length (draws u).numbers + length (draws u).late) views id other v w both spent at there
+        (let now = ap (λ (d : Draws). length d.numbers + length d.late) adds in let more = length-append (draws v).numbers (draws w).numbers in let late = length-append (draws v).late (draws w).late in omega arith)
+        (let empty = ap length none in let bare = ap length timely in omega arith) ∙ drawn.counted;
   }
 
-  pub drawn_split : (id : ℕ) (v left right : ClaimView) → get_elem? views id ≡ some v → draws left ≡ draws v → (draws right).numbers ≡ [] → (draws right).spent ≡ 0 → AreDrawn counter n draws (set views id left ++ right ∷ [])
-  drawn_split id v left right at same none zero = record {
+  pub drawn_split : (id : ℕ) (v left right : ClaimView) → get_elem? views id ≡ some v → draws left ≡ draws v → (draws right).numbers ≡ [] → (draws right).late ≡ [] → AreDrawn counter n draws (set views id left ++ right ∷ [])
+  drawn_split id v left right at same none timely = record {
     once = λ x. sum_split (λ u. times x (draws u).numbers) views id v left right at
         (let a = ap (λ (d : Draws). times x d.numbers) same in let b = ap (times x) none in omega arith) ∙ drawn.once x;
     drawn = sum_split (λ u. length (draws u).numbers) views id v left right at
         (let a = ap (λ (d : Draws). length d.numbers) same in let b = ap length none in omega arith) ∙ drawn.drawn;
-    counted = sum_split (λ u. length (draws u).numbers + (draws u).spent) views id v left right at
-        (let a = ap (λ (d : Draws). length d.numbers + d.spent) same in let b = ap length none in omega arith) ∙ drawn.counted;
+    counted = sum_split (λ u. length (draws u).numbers + length (draws u).late) views id v left right at
+        (let a = ap (λ (d : Draws). length d.numbers + length d.late) same in let b = ap length none in let c = ap length timely in omega arith) ∙ drawn.counted;
   }
 
   -- the number of the counter is one that no view has, and each view has at most as many numbers as were drawn
@@ -120,10 +121,10 @@ module _ (counter n : ℕ) (draws : ClaimView → Draws) (views : List ClaimView
       omega arith
 
   -- the counter is at most 8 above n, so that it doesn't wrap
-  pub drawn_small : All (λ u. (draws u).spent ≤ u.shares) views → sum_by (λ u. u.shares) views ≤ 8 → counter ≤ n + 8
+  pub drawn_small : All (λ u. length (draws u).late ≤ u.shares) views → sum_by (λ u. u.shares) views ≤ 8 → counter ≤ n + 8
   drawn_small late few =
-      let two = sum_both (λ u. length (draws u).numbers) (λ u. (draws u).spent) views in
-      let less = sum_each (λ u. (draws u).spent) (λ u. u.shares) views late in
+      let two = sum_both (λ u. length (draws u).numbers) (λ u. length (draws u).late) views in
+      let less = sum_each (λ u. length (draws u).late) (λ u. u.shares) views late in
       let all = drawn.drawn in
       let count = drawn.counted in
       omega arith

@@ -10,7 +10,7 @@ use Rattle.claim_rule.specs.declared.view.Draws.{Draws}
 use Rattle.claim_rule.specs.declared.view.ClaimView.{ClaimView}
 use Rattle.claim_rule.specs.Plan.{Pieces, piece_of, word_on, best}
 use Rattle.claim_rule.specs.Views.{times, claim_drawn, row_claimed, piece_finished, done_seen, judge_drawn}
-use Rattle.claim_rule.specs.Rule.{IsPlanned, Fits, AreDrawn, IsRuled}
+use Rattle.claim_rule.specs.Rule.{IsPlanned, AreLate, Fits, AreDrawn, IsRuled}
 use Rattle.claim_rule.proofs.Sums.{each_at, sum_set, sum_set_same}
 use Rattle.claim_rule.specs.laws.Times.{times-append, times-le-length, length-without, times-without_other, times-without-le}
 use Rattle.claim_rule.specs.laws.Tops.{top_at, top-append}
@@ -30,15 +30,26 @@ some_shares v plan done fits pending = by v.shares refl
 planned_more : (plan : Pieces) (v w : ClaimView) → ((x : ℕ) → times x v.claiming.numbers ≤ times x w.claiming.numbers) → (claims : List (ℕ × ℕ)) → All (IsPlanned plan v) claims → All (IsPlanned plan w) claims
 planned_more plan v w more claims all = All-weaker (IsPlanned plan v) (IsPlanned plan w) (λ pair p. (p.0, (let m = more p.0 in let d = p.1 in omega arith), p.2)) claims all
 
+-- one more draw that came too late
+late_more : (n shares : ℕ) (late : List ℕ) (x : ℕ) → AreLate n shares late → length late < shares → n ≤ x → AreLate n shares (late ++ x ∷ [])
+late_more n shares late x are unspent above = record {
+  few = let more : length (late ++ x ∷ []) ≡ length late + 1 = length-append late (x ∷ []) in omega arith;
+  beyond = All-push (λ y. n ≤ y) late x are.beyond above;
+}
+
+-- what was seen of the done word before it counts one more
+looked_more : (done : ℕ) (looks : List ℕ) → All (λ seen. seen ≤ done) looks → All (λ seen. seen ≤ done + 1) looks
+looked_more done looks all = All-weaker (λ seen. seen ≤ done) (λ seen. seen ≤ done + 1) (λ seen (low : seen ≤ done). omega arith) looks all
+
 module _ (rows : ℕ) (plan : Pieces) (claimed done judged : ℕ) (headers : List ℕ) (views : List ClaimView) (r : IsRuled rows plan claimed done judged headers views) (id : ℕ) (v : ClaimView) (at : get_elem? views id ≡ some v) where
   mine : Fits plan done v
   mine = each_at (Fits plan done) views id v r.fits at
 
   -- ---- draw a claim piece
 
-  pub draw_claim_some : 0 < v.shares → claimed < length plan → IsRuled rows plan (claimed + 1) done judged headers (set views id (claim_drawn (Some claimed) v))
+  pub draw_claim_some : 0 < v.shares → claimed < length plan → IsRuled rows plan (claimed + 1) done judged headers (set views id (claim_drawn (Some claimed) claimed v))
   draw_claim_some some_share below =
-      let w = claim_drawn (Some claimed) v in
+      let w = claim_drawn (Some claimed) claimed v in
       record {
         fits = All-set (Fits plan done) views id w fits r.fits;
         claiming = drawn_some claimed (length plan) (λ u. u.claiming) views r.claiming id v w at below refl;
@@ -59,11 +70,12 @@ module _ (rows : ℕ) (plan : Pieces) (claimed done judged : ℕ) (headers : Lis
       more : (x : ℕ) → times x v.claiming.numbers ≤ times x (v.claiming.numbers ++ claimed ∷ [])
       more x = let e = times-append x v.claiming.numbers (claimed ∷ []) in omega arith
 
-      fits : Fits plan done (claim_drawn (Some claimed) v)
+      fits : Fits plan done (claim_drawn (Some claimed) claimed v)
       fits = record {
         opened = mine.opened;
         same = mine.same;
         empty = λ none. absurd (omega arith);
+        joined = mine.joined;
         drawn = λ x. let a = times-append x v.pending (claimed ∷ []) in let b = times-append x v.claiming.numbers (claimed ∷ []) in let c = mine.drawn x in omega arith;
         made = λ x f.
             let a = times-append x v.pending (claimed ∷ []) in
@@ -71,27 +83,30 @@ module _ (rows : ℕ) (plan : Pieces) (claimed done judged : ℕ) (headers : Lis
             let over = f.over in
             let has = f.drawn in
             mine.made x record { drawn = omega arith; over = omega arith };
-        planned = planned_more plan v (claim_drawn (Some claimed) v) more v.claims mine.planned;
+        planned = planned_more plan v (claim_drawn (Some claimed) claimed v) more v.claims mine.planned;
+        looked = mine.looked;
         stable = mine.stable;
         judging = mine.judging;
         late_claiming = mine.late_claiming;
         late_judging = mine.late_judging;
       }
 
-  pub draw_claim_none : 0 < v.shares → length plan ≤ claimed → v.claiming.spent < v.shares → IsRuled rows plan (claimed + 1) done judged headers (set views id (claim_drawn None v))
+  pub draw_claim_none : 0 < v.shares → length plan ≤ claimed → length v.claiming.late < v.shares → IsRuled rows plan (claimed + 1) done judged headers (set views id (claim_drawn None claimed v))
   draw_claim_none some_share above unspent =
-      let w = claim_drawn None v in
+      let w = claim_drawn None claimed v in
       record {
         fits = All-set (Fits plan done) views id w record {
           opened = mine.opened;
           same = mine.same;
           empty = λ none. absurd (omega arith);
+          joined = mine.joined;
           drawn = mine.drawn;
           made = λ x f. mine.made x record { drawn = f.drawn; over = f.over };
           planned = planned_more plan v w (λ x. let e : times x v.claiming.numbers ≡ times x w.claiming.numbers = refl in omega arith) v.claims mine.planned;
+          looked = mine.looked;
           stable = mine.stable;
           judging = mine.judging;
-          late_claiming = omega arith;
+          late_claiming = late_more (length plan) v.shares v.claiming.late claimed mine.late_claiming unspent above;
           late_judging = mine.late_judging;
         } r.fits;
         claiming = drawn_none claimed (length plan) (λ u. u.claiming) views r.claiming id v w at above refl;
@@ -127,17 +142,19 @@ module _ (rows : ℕ) (plan : Pieces) (claimed done judged : ℕ) (headers : Lis
     long = r.long;
   }
 
-  pub draw_judge_some : 0 < v.shares → v.stable ≡ true → judged < length plan → IsRuled rows plan claimed done (judged + 1) headers (set views id (judge_drawn (Some judged) v))
+  pub draw_judge_some : 0 < v.shares → v.stable ≡ true → judged < length plan → IsRuled rows plan claimed done (judged + 1) headers (set views id (judge_drawn (Some judged) judged v))
   draw_judge_some some_share flag below =
-      let w = judge_drawn (Some judged) v in
+      let w = judge_drawn (Some judged) judged v in
       judged_so w (judged + 1) refl refl refl refl refl refl
       record {
         opened = mine.opened;
         same = mine.same;
         empty = λ none. absurd (omega arith);
+        joined = mine.joined;
         drawn = mine.drawn;
         made = λ x f. mine.made x record { drawn = f.drawn; over = f.over };
         planned = planned_more plan v w (λ x. let e : times x v.claiming.numbers ≡ times x w.claiming.numbers = refl in omega arith) v.claims mine.planned;
+        looked = mine.looked;
         stable = mine.stable;
         judging = λ off. absurd (true≢false (sym flag ∙ off));
         late_claiming = mine.late_claiming;
@@ -145,21 +162,23 @@ module _ (rows : ℕ) (plan : Pieces) (claimed done judged : ℕ) (headers : Lis
       }
       (drawn_some judged (length plan) (λ u. u.judging) views r.judging id v w at below refl)
 
-  pub draw_judge_none : 0 < v.shares → v.stable ≡ true → length plan ≤ judged → v.judging.spent < v.shares → IsRuled rows plan claimed done (judged + 1) headers (set views id (judge_drawn None v))
+  pub draw_judge_none : 0 < v.shares → v.stable ≡ true → length plan ≤ judged → length v.judging.late < v.shares → IsRuled rows plan claimed done (judged + 1) headers (set views id (judge_drawn None judged v))
   draw_judge_none some_share flag above unspent =
-      let w = judge_drawn None v in
+      let w = judge_drawn None judged v in
       judged_so w (judged + 1) refl refl refl refl refl refl
       record {
         opened = mine.opened;
         same = mine.same;
         empty = λ none. absurd (omega arith);
+        joined = mine.joined;
         drawn = mine.drawn;
         made = λ x f. mine.made x record { drawn = f.drawn; over = f.over };
         planned = planned_more plan v w (λ x. let e : times x v.claiming.numbers ≡ times x w.claiming.numbers = refl in omega arith) v.claims mine.planned;
+        looked = mine.looked;
         stable = mine.stable;
         judging = mine.judging;
         late_claiming = mine.late_claiming;
-        late_judging = omega arith;
+        late_judging = late_more (length plan) v.shares v.judging.late judged mine.late_judging unspent above;
       }
       (drawn_none judged (length plan) (λ u. u.judging) views r.judging id v w at above refl)
 
@@ -172,9 +191,11 @@ module _ (rows : ℕ) (plan : Pieces) (claimed done judged : ℕ) (headers : Lis
         opened = mine.opened;
         same = mine.same;
         empty = λ none. absurd (omega arith);
+        joined = mine.joined;
         drawn = mine.drawn;
         made = λ x f. mine.made x record { drawn = f.drawn; over = f.over };
         planned = planned_more plan v w (λ x. let e : times x v.claiming.numbers ≡ times x w.claiming.numbers = refl in omega arith) v.claims mine.planned;
+        looked = All-push (λ seen. seen ≤ done) v.looks done mine.looked (omega arith);
         stable = λ on. eqb-true done (length v.plan) on ∙ ap length known;
         judging = λ off. by v.stable refl off;
         late_claiming = mine.late_claiming;
@@ -201,11 +222,13 @@ module _ (rows : ℕ) (plan : Pieces) (claimed done judged : ℕ) (headers : Lis
           opened = mine.opened;
           same = mine.same;
           empty = λ none. absurd (omega arith);
+          joined = mine.joined;
           drawn = mine.drawn;
           made = λ y f. All-weaker (Contains v.claims) (Contains w.claims) (λ pair c. Contains-append_left v.claims ((row, word) ∷ []) pair c) (piece_of plan y) (mine.made y record { drawn = f.drawn; over = f.over });
           planned = All-push (IsPlanned plan w) v.claims (row, word)
               (planned_more plan v w (λ y. let e : times y v.claiming.numbers ≡ times y w.claiming.numbers = refl in omega arith) v.claims mine.planned)
               (x, drawn, has);
+          looked = mine.looked;
           stable = mine.stable;
           judging = mine.judging;
           late_claiming = mine.late_claiming;
@@ -255,9 +278,11 @@ module _ (rows : ℕ) (plan : Pieces) (claimed done judged : ℕ) (headers : Lis
         opened = f.opened;
         same = f.same;
         empty = f.empty;
+        joined = f.joined;
         drawn = f.drawn;
         made = f.made;
         planned = f.planned;
+        looked = looked_more done u.looks f.looked;
         stable = λ on. let all = f.stable on in absurd (omega arith);
         judging = f.judging;
         late_claiming = f.late_claiming;
@@ -269,11 +294,13 @@ module _ (rows : ℕ) (plan : Pieces) (claimed done judged : ℕ) (headers : Lis
           opened = mine.opened;
           same = mine.same;
           empty = λ none. absurd (omega arith);
+          joined = mine.joined;
           drawn = λ y. let a = times-without-le x y v.pending in let b = mine.drawn y in omega arith;
           made = λ y f. dite (ℕ_discrete y x)
               (λ (same : y ≡ x). subst (λ (n : ℕ). All (Contains v.claims) (piece_of plan n)) (sym same) made)
               (λ (other : y ≢ x). mine.made y record { drawn = f.drawn; over = sym (times-without_other x y v.pending other) ∙ f.over });
           planned = planned_more plan v w (λ y. let e : times y v.claiming.numbers ≡ times y w.claiming.numbers = refl in omega arith) v.claims mine.planned;
+          looked = looked_more done v.looks mine.looked;
           stable = λ on. let all = mine.stable on in absurd (omega arith);
           judging = mine.judging;
           late_claiming = mine.late_claiming;

@@ -1,5 +1,5 @@
 -- A split and a join of seats keep the rule, and a table that is opened has it.
-use Rattle.std.proofs.Common.{◌≡◌, ◌≢◌, ℕ, zero, suc, ◌+◌, ◌<◌, ◌≤◌, ◌^◌, min, Bool, true, false, ◌||◌, true≢false, List, [], ◌∷◌, ◌++◌, length, set, replicate, refl, sym, ap, ◌∙◌, subst, ⊎_elim, arith, length-append}
+use Rattle.std.proofs.Common.{◌≡◌, ◌≢◌, ℕ, zero, suc, ◌+◌, ◌-◌, ◌<◌, ◌≤◌, ◌^◌, min, Bool, true, false, ◌||◌, true≢false, List, [], ◌∷◌, ◌++◌, length, set, replicate, refl, sym, ap, ◌∙◌, subst, ⊎_elim, arith, length-append}
 use Rattle.std.specs.Prelude.{All, Contains}
 use Rattle.std.proofs.lemmas.List.Elements.{All-set, All-weaker, All-push, All-append, All-nil, All-cons, Contains-append_left, Contains-append_right}
 use Rattle.std.proofs.lemmas.Bool.Decides.{nat_tests}
@@ -10,12 +10,25 @@ use Rattle.claim_rule.specs.declared.view.Draws.{Draws}
 use Rattle.claim_rule.specs.declared.view.ClaimView.{ClaimView}
 use Rattle.claim_rule.specs.Plan.{Pieces, piece_of, word_on, best}
 use Rattle.claim_rule.specs.Views.{times, no_draws, fresh, spent_view, shares_kept, shares_given, views_joined}
-use Rattle.claim_rule.specs.Rule.{once_below, IsFinished, IsPlanned, Fits, AreDrawn, IsRuled}
+use Rattle.claim_rule.specs.Rule.{once_below, IsFinished, IsPlanned, AreLate, Fits, AreDrawn, IsRuled}
 use Rattle.claim_rule.proofs.Sums.{each_at, sum_joined, sum_split}
 use Rattle.claim_rule.specs.laws.Times.{times-append}
 use Rattle.claim_rule.specs.laws.Tops.{top-append}
 use Rattle.claim_rule.proofs.Tops.{top_joined, top_split}
 use Rattle.claim_rule.proofs.Drawing.{drawn_joined, drawn_split}
+
+-- draws that came too late: none, those of a view with fewer shares, and those of two views
+none_late : (n shares : ℕ) → AreLate n shares []
+none_late n shares = record { few = omega arith; beyond = All-nil (λ x. n ≤ x) }
+
+fewer_late : (n shares less : ℕ) (late : List ℕ) → AreLate n shares late → length late ≤ less → AreLate n less late
+fewer_late n shares less late are few = record { few = few; beyond = are.beyond }
+
+both_late : (n shares more : ℕ) (late later : List ℕ) → AreLate n shares late → AreLate n more later → AreLate n (shares + more) (late ++ later)
+both_late n shares more late later are too = record {
+  few = let all = length-append late later in let a = are.few in let b = too.few in omega arith;
+  beyond = All-append (λ x. n ≤ x) late later are.beyond too.beyond;
+}
 
 -- a view that has done nothing
 fresh_fits : (plan : Pieces) (done shares : ℕ) (flag : Bool) → 0 < shares → (flag ≡ true → done ≡ length plan) → Fits plan done (fresh plan shares flag)
@@ -23,13 +36,15 @@ fresh_fits plan done shares flag some_share stable = record {
   opened = refl;
   same = λ _. refl;
   empty = λ none. absurd (omega arith);
+  joined = All-nil (λ p. p ≡ plan);
   drawn = λ x. omega arith;
   made = λ x f. let has : 0 < 0 = f.drawn in absurd (omega arith);
   planned = All-nil (IsPlanned plan (fresh plan shares flag));
+  looked = All-nil (λ seen. seen ≤ done);
   stable = stable;
   judging = λ _. refl;
-  late_claiming = omega arith;
-  late_judging = omega arith;
+  late_claiming = none_late (length plan) shares;
+  late_judging = none_late (length plan) shares;
 }
 
 spent_fits : (plan : Pieces) (done : ℕ) → Fits plan done spent_view
@@ -37,20 +52,22 @@ spent_fits plan done = record {
   opened = refl;
   same = λ more. absurd (omega arith);
   empty = λ _. refl;
+  joined = All-nil (λ p. p ≡ plan);
   drawn = λ x. omega arith;
   made = λ x f. let has : 0 < 0 = f.drawn in absurd (omega arith);
   planned = All-nil (IsPlanned plan spent_view);
+  looked = All-nil (λ seen. seen ≤ done);
   stable = λ on. absurd (true≢false (sym on));
   judging = λ _. refl;
-  late_claiming = omega arith;
-  late_judging = omega arith;
+  late_claiming = none_late (length plan) 0;
+  late_judging = none_late (length plan) 0;
 }
 
 module _ (rows : ℕ) (plan : Pieces) (claimed done judged : ℕ) (headers : List ℕ) (views : List ClaimView) (r : IsRuled rows plan claimed done judged headers views) (id : ℕ) (v : ClaimView) (at : get_elem? views id ≡ some v) where
   mine : Fits plan done v
   mine = each_at (Fits plan done) views id v r.fits at
 
-  pub split : (part : ℕ) → 0 < part → part < v.shares → v.claiming.spent + part ≤ v.shares → v.judging.spent + part ≤ v.shares
+  pub split : (part : ℕ) → 0 < part → part < v.shares → length v.claiming.late + part ≤ v.shares → length v.judging.late + part ≤ v.shares
       → IsRuled rows plan claimed done judged headers (set views id (shares_kept part v) ++ shares_given part v ∷ [])
   split part some_part less claims_late judges_late =
       let left = shares_kept part v in
@@ -62,13 +79,15 @@ module _ (rows : ℕ) (plan : Pieces) (claimed done judged : ℕ) (headers : Lis
               opened = mine.opened;
               same = λ _. mine.same some_share;
               empty = λ none. absurd (omega arith);
+              joined = mine.joined;
               drawn = mine.drawn;
               made = λ x f. mine.made x record { drawn = f.drawn; over = f.over };
               planned = mine.planned;
+              looked = mine.looked;
               stable = mine.stable;
               judging = mine.judging;
-              late_claiming = omega arith;
-              late_judging = omega arith;
+              late_claiming = fewer_late (length plan) v.shares (v.shares - part) v.claiming.late mine.late_claiming (omega arith);
+              late_judging = fewer_late (length plan) v.shares (v.shares - part) v.judging.late mine.late_judging (omega arith);
             } r.fits)
             (subst (λ (p : Pieces). Fits plan done (fresh p part v.stable)) (sym (mine.same some_share)) (fresh_fits plan done part v.stable some_part mine.stable));
         claiming = drawn_split claimed (length plan) (λ u. u.claiming) views r.claiming id v left right at refl refl refl;
@@ -154,6 +173,7 @@ module _ (rows : ℕ) (plan : Pieces) (claimed done judged : ℕ) (headers : Lis
         opened = mine.opened;
         same = λ _. mine.same some_share;
         empty = λ none. absurd (omega arith);
+        joined = All-cons (λ p. p ≡ plan) w.plan (v.joined ++ w.joined) (theirs.same other_share) (All-append (λ p. p ≡ plan) v.joined w.joined mine.joined theirs.joined);
         drawn = λ x.
             let a = times-append x v.pending w.pending in
             let b = times-append x v.claiming.numbers w.claiming.numbers in
@@ -164,10 +184,11 @@ module _ (rows : ℕ) (plan : Pieces) (claimed done judged : ℕ) (headers : Lis
         planned = All-append (IsPlanned plan (views_joined v w)) v.claims w.claims
             (planned_in v (λ x. let e = times-append x v.claiming.numbers w.claiming.numbers in omega arith) mine.planned)
             (planned_in w (λ x. let e = times-append x v.claiming.numbers w.claiming.numbers in omega arith) theirs.planned);
+        looked = All-append (λ seen. seen ≤ done) v.looks w.looks mine.looked theirs.looked;
         stable = flag v.stable w.stable mine.stable theirs.stable;
         judging = unflagged v.stable w.stable v.judging.numbers w.judging.numbers mine.judging theirs.judging;
-        late_claiming = let a = mine.late_claiming in let b = theirs.late_claiming in omega arith;
-        late_judging = let a = mine.late_judging in let b = theirs.late_judging in omega arith;
+        late_claiming = both_late (length plan) v.shares w.shares v.claiming.late w.claiming.late mine.late_claiming theirs.late_claiming;
+        late_judging = both_late (length plan) v.shares w.shares v.judging.late w.judging.late mine.late_judging theirs.late_judging;
       }
 
 -- the table with its first view
@@ -177,7 +198,7 @@ opens rows plan shares few some_share most =
     (λ (draws : ClaimView → Draws) (none : draws (fresh plan shares false) ≡ no_draws). record {
       once = λ x. ap (λ (d : Draws). 0 + times x d.numbers) none ∙ none_below x;
       drawn = ap (λ (d : Draws). 0 + length d.numbers) none ∙ (omega arith);
-      counted = ap (λ (d : Draws). 0 + (length d.numbers + d.spent)) none;
+      counted = ap (λ (d : Draws). 0 + (length d.numbers + length d.late)) none;
     }) in
     record {
       fits = All-cons (Fits plan 0) (fresh plan shares false) [] (fresh_fits plan 0 shares false some_share (λ on. absurd (true≢false (sym on)))) (All-nil (Fits plan 0));

@@ -36,24 +36,24 @@ module _ (rows slots id : ℕ) (me : Seated) (opened : me.0.closed ≡ false) (s
     known = fits.same some_share
 
     claimed_small : claimed ≤ length plan + 8
-    claimed_small = drawn_small claimed (length plan) (λ u. u.claiming) views r.claiming (All-weaker (Fits plan done) (λ u. u.claiming.spent ≤ u.shares) (λ u f. f.late_claiming) views r.fits) r.shares
+    claimed_small = drawn_small claimed (length plan) (λ u. u.claiming) views r.claiming (All-weaker (Fits plan done) (λ u. length u.claiming.late ≤ u.shares) (λ u f. f.late_claiming.few) views r.fits) r.shares
 
     judged_small : judged ≤ length plan + 8
-    judged_small = drawn_small judged (length plan) (λ u. u.judging) views r.judging (All-weaker (Fits plan done) (λ u. u.judging.spent ≤ u.shares) (λ u f. f.late_judging) views r.fits) r.shares
+    judged_small = drawn_small judged (length plan) (λ u. u.judging) views r.judging (All-weaker (Fits plan done) (λ u. length u.judging.late ≤ u.shares) (λ u f. f.late_judging.few) views r.fits) r.shares
 
-    claim_ruled : me.0.claiming.spent < me.0.shares → (b : Bool) → nat_lt claimed (length plan) ≡ b → IsRuled rows plan (claimed + 1) done judged headers (set views id (claim_drawn (if b then Some claimed else None) me.0))
+    claim_ruled : length me.0.claiming.late < me.0.shares → (b : Bool) → nat_lt claimed (length plan) ≡ b → IsRuled rows plan (claimed + 1) done judged headers (set views id (claim_drawn (if b then Some claimed else None) claimed me.0))
     claim_ruled unspent true is = draw_claim_some rows plan claimed done judged headers views r id me.0 at some_share (ltb-true claimed (length plan) is)
     claim_ruled unspent false is = draw_claim_none rows plan claimed done judged headers views r id me.0 at some_share (ltb-false claimed (length plan) is) unspent
 
-    judge_ruled : me.0.stable ≡ true → me.0.judging.spent < me.0.shares → (b : Bool) → nat_lt judged (length plan) ≡ b → IsRuled rows plan claimed done (judged + 1) headers (set views id (judge_drawn (if b then Some judged else None) me.0))
+    judge_ruled : me.0.stable ≡ true → length me.0.judging.late < me.0.shares → (b : Bool) → nat_lt judged (length plan) ≡ b → IsRuled rows plan claimed done (judged + 1) headers (set views id (judge_drawn (if b then Some judged else None) judged me.0))
     judge_ruled flag unspent true is = draw_judge_some rows plan claimed done judged headers views r id me.0 at some_share flag (ltb-true judged (length plan) is)
     judge_ruled flag unspent false is = draw_judge_none rows plan claimed done judged headers views r id me.0 at some_share flag (ltb-false judged (length plan) is) unspent
 
-    pub claim_told : me.0.claiming.spent < me.0.shares → (w : ClaimView) × IsRuled rows plan ((claimed + 1) % 2 ^ 64) done judged headers (set views id w) × DrawsFrom (λ u. u.claiming) claim_drawn me claimed (w, me.1)
+    pub claim_told : length me.0.claiming.late < me.0.shares → (w : ClaimView) × IsRuled rows plan ((claimed + 1) % 2 ^ 64) done judged headers (set views id w) × DrawsFrom (λ u. u.claiming) claim_drawn me claimed (w, me.1)
     claim_told unspent = (
-      claim_drawn (drawn_at claimed (length me.0.plan)) me.0,
-      subst (λ (n : ℕ). IsRuled rows plan n done judged headers (set views id (claim_drawn (drawn_at claimed (length me.0.plan)) me.0))) (sym (wraps_not claimed (length plan) claimed_small r.few))
-          (subst (λ (p : Pieces). IsRuled rows plan (claimed + 1) done judged headers (set views id (claim_drawn (drawn_at claimed (length p)) me.0))) (sym known) (claim_ruled unspent (nat_lt claimed (length plan)) refl)),
+      claim_drawn (drawn_at claimed (length me.0.plan)) claimed me.0,
+      subst (λ (n : ℕ). IsRuled rows plan n done judged headers (set views id (claim_drawn (drawn_at claimed (length me.0.plan)) claimed me.0))) (sym (wraps_not claimed (length plan) claimed_small r.few))
+          (subst (λ (p : Pieces). IsRuled rows plan (claimed + 1) done judged headers (set views id (claim_drawn (drawn_at claimed (length p)) claimed me.0))) (sym known) (claim_ruled unspent (nat_lt claimed (length plan)) refl)),
       record {
         leaves = refl;
         new = λ below. drawn_new claimed (length plan) (λ u. u.claiming) views r.claiming id me.0 at (subst (λ (p : Pieces). claimed < length p) known below);
@@ -61,11 +61,11 @@ module _ (rows slots id : ℕ) (me : Seated) (opened : me.0.closed ≡ false) (s
       },
     )
 
-    pub judge_told : me.0.stable ≡ true → me.0.judging.spent < me.0.shares → (w : ClaimView) × IsRuled rows plan claimed done ((judged + 1) % 2 ^ 64) headers (set views id w) × DrawsFrom (λ u. u.judging) judge_drawn me judged (w, me.1)
+    pub judge_told : me.0.stable ≡ true → length me.0.judging.late < me.0.shares → (w : ClaimView) × IsRuled rows plan claimed done ((judged + 1) % 2 ^ 64) headers (set views id w) × DrawsFrom (λ u. u.judging) judge_drawn me judged (w, me.1)
     judge_told flag unspent = (
-      judge_drawn (drawn_at judged (length me.0.plan)) me.0,
-      subst (λ (n : ℕ). IsRuled rows plan claimed done n headers (set views id (judge_drawn (drawn_at judged (length me.0.plan)) me.0))) (sym (wraps_not judged (length plan) judged_small r.few))
-          (subst (λ (p : Pieces). IsRuled rows plan claimed done (judged + 1) headers (set views id (judge_drawn (drawn_at judged (length p)) me.0))) (sym known) (judge_ruled flag unspent (nat_lt judged (length plan)) refl)),
+      judge_drawn (drawn_at judged (length me.0.plan)) judged me.0,
+      subst (λ (n : ℕ). IsRuled rows plan claimed done n headers (set views id (judge_drawn (drawn_at judged (length me.0.plan)) judged me.0))) (sym (wraps_not judged (length plan) judged_small r.few))
+          (subst (λ (p : Pieces). IsRuled rows plan claimed done (judged + 1) headers (set views id (judge_drawn (drawn_at judged (length p)) judged me.0))) (sym known) (judge_ruled flag unspent (nat_lt judged (length plan)) refl)),
       record {
         leaves = refl;
         new = λ below. drawn_new judged (length plan) (λ u. u.judging) views r.judging id me.0 at (subst (λ (p : Pieces). judged < length p) known below);
@@ -100,6 +100,7 @@ module _ (rows slots id : ℕ) (me : Seated) (opened : me.0.closed ≡ false) (s
             within = subst (λ (p : Pieces). done ≤ length p) (sym known) most;
             small = omega arith;
             still = λ on. fits.stable on ∙ ap length (sym known);
+            risen = fits.looked;
           },
         )
 
@@ -113,7 +114,7 @@ module _ (rows slots id : ℕ) (me : Seated) (opened : me.0.closed ≡ false) (s
       (refl, header_final rows plan claimed done judged headers views r (fits.stable flag) row within ∙ ap (λ (p : Pieces). final_of p row) (sym known)),
     )
 
-    pub once_told : (w : ClaimView) × IsRuled rows plan claimed done judged headers (set views id w) × ((◌≡◌ {A = Seated} (w, me.1) me) × IsOnce me.0)
+    pub once_told : (w : ClaimView) × IsRuled rows plan claimed done judged headers (set views id w) × ((◌≡◌ {A = Seated} (w, me.1) me) × IsOnce me.0 × All (λ p. p ≡ me.0.plan) me.0.joined)
     once_told = (
       me.0,
       same_views,
@@ -123,16 +124,17 @@ module _ (rows slots id : ℕ) (me : Seated) (opened : me.0.closed ≡ false) (s
           claiming = drawn_once claimed (length plan) (λ u. u.claiming) views r.claiming id me.0 at;
           judging = drawn_once judged (length plan) (λ u. u.judging) views r.judging id me.0 at;
         },
+        subst (λ (mine : Pieces). All (λ p. p ≡ mine) me.0.joined) (sym known) fits.joined,
       ),
     )
 
   -- ---- the goals of the calls
 
-  pub draws_claim : me.0.claiming.spent < me.0.shares → Allows (Holds rows) slots id me 0 (λ n. (n + 1) % 2 ^ 64) (DrawsFrom (λ u. u.claiming) claim_drawn me)
+  pub draws_claim : length me.0.claiming.late < me.0.shares → Allows (Holds rows) slots id me 0 (λ n. (n + 1) % 2 ^ 64) (DrawsFrom (λ u. u.claiming) claim_drawn me)
   draws_claim unspent = on_claimed rows id me slots 0 (λ n. (n + 1) % 2 ^ 64) (DrawsFrom (λ u. u.claiming) claim_drawn me) refl opened
       (λ views plan claimed done judged headers r at. claim_told views plan claimed done judged headers r at unspent)
 
-  pub draws_judge : me.0.stable ≡ true → me.0.judging.spent < me.0.shares → Allows (Holds rows) slots id me 2 (λ n. (n + 1) % 2 ^ 64) (DrawsFrom (λ u. u.judging) judge_drawn me)
+  pub draws_judge : me.0.stable ≡ true → length me.0.judging.late < me.0.shares → Allows (Holds rows) slots id me 2 (λ n. (n + 1) % 2 ^ 64) (DrawsFrom (λ u. u.judging) judge_drawn me)
   draws_judge flag unspent = on_judged rows id me slots 2 (λ n. (n + 1) % 2 ^ 64) (DrawsFrom (λ u. u.judging) judge_drawn me) refl opened
       (λ views plan claimed done judged headers r at. judge_told views plan claimed done judged headers r at flag unspent)
 
@@ -154,11 +156,11 @@ module _ (rows slots id : ℕ) (me : Seated) (opened : me.0.closed ≡ false) (s
       (on_header rows id me slots (row + 3) row (λ n. n) (λ found now. (now ≡ me) × (found ≡ final_of me.0.plan row)) refl opened
       (λ views plan claimed done judged headers r at. header_told views plan claimed done judged headers r at row within flag))
 
-  pub settles : Allows (Holds rows) slots id me 0 (λ n. n) (λ found now. (now ≡ me) × IsOnce me.0)
-  settles = on_claimed rows id me slots 0 (λ n. n) (λ found now. (now ≡ me) × IsOnce me.0) refl opened
+  pub settles : Allows (Holds rows) slots id me 0 (λ n. n) (λ found now. (now ≡ me) × IsOnce me.0 × All (λ p. p ≡ me.0.plan) me.0.joined)
+  settles = on_claimed rows id me slots 0 (λ n. n) (λ found now. (now ≡ me) × IsOnce me.0 × All (λ p. p ≡ me.0.plan) me.0.joined) refl opened
       (λ views plan claimed done judged headers r at. once_told views plan claimed done judged headers r at)
 
-pub splits : (rows id : ℕ) (v : ClaimView) (part : ℕ) → v.closed ≡ false → 0 < part → part < v.shares → v.claiming.spent + part ≤ v.shares → v.judging.spent + part ≤ v.shares
+pub splits : (rows id : ℕ) (v : ClaimView) (part : ℕ) → v.closed ≡ false → 0 < part → part < v.shares → length v.claiming.late + part ≤ v.shares → length v.judging.late + part ≤ v.shares
     → Splits (Holds rows) id v (shares_kept part v) (shares_given part v)
 splits rows id v part opened some_part less claims_late judges_late = splits_by rows id v (shares_kept part v) (shares_given part v) opened
     (λ views plan claimed done judged headers r at. split rows plan claimed done judged headers views r id v at part some_part less claims_late judges_late)

@@ -22,30 +22,38 @@ pub record IsFinished (v : ClaimView) (x : ℕ) : Type 0 where
 abbrev pub IsPlanned : Pieces → ClaimView → ℕ × ℕ → Type 0
 IsPlanned plan v pair = (x : ℕ) × (0 < times x v.claiming.numbers) × Contains (piece_of plan x) pair
 
+-- draws of a counter that came too late: they gave no number below n, and there are at most as many as shares
+pub record AreLate (n shares : ℕ) (late : List ℕ) : Type 0 where
+  pub few : length late ≤ shares
+  pub beyond : All (λ x. n ≤ x) late
+
 -- what the rule says of one view, where the done word counts so many pieces
 pub record Fits (plan : Pieces) (done : ℕ) (v : ClaimView) : Type 0 where
-  -- each view has the plan but a spent one, which has nothing
   pub opened : v.closed ≡ false
+  -- each view has the plan but a spent one, which has nothing, and each that it took in had it
   pub same : 0 < v.shares → v.plan ≡ plan
   pub empty : v.shares ≡ 0 → v ≡ spent_view
+  pub joined : All (λ p. p ≡ plan) v.joined
   -- a number that isn't finished is one that the view has drawn
   pub drawn : (x : ℕ) → times x v.pending ≤ times x v.claiming.numbers
   -- all claims of a finished number were made, and each claim is a pair that the plan has for a drawn number
   pub made : (x : ℕ) → IsFinished v x → All (Contains v.claims) (piece_of plan x)
   pub planned : All (IsPlanned plan v) v.claims
+  -- no look at the done word gave more than it counts now
+  pub looked : All (λ seen. seen ≤ done) v.looks
   -- the flag stands only where all is done, and a number for judging only beside the flag
   pub stable : v.stable ≡ true → done ≡ length plan
   pub judging : v.stable ≡ false → v.judging.numbers ≡ []
-  -- at most as many draws of each counter came too late as the view has shares
-  pub late_claiming : v.claiming.spent ≤ v.shares
-  pub late_judging : v.judging.spent ≤ v.shares
+  -- the draws of each counter that came too late
+  pub late_claiming : AreLate (length plan) v.shares v.claiming.late
+  pub late_judging : AreLate (length plan) v.shares v.judging.late
 
 -- the numbers drawn from one counter: they are those below it and below n, each stands once over all views, and the
 -- counter counts them and the draws that came too late
 pub record AreDrawn (counter n : ℕ) (draws : ClaimView → Draws) (views : List ClaimView) : Type 0 where
   pub once : (x : ℕ) → sum_by (λ v. times x (draws v).numbers) views ≡ once_below x (min counter n)
   pub drawn : sum_by (λ v. length (draws v).numbers) views ≡ min counter n
-  pub counted : sum_by (λ v. length (draws v).numbers + (draws v).spent) views ≡ counter
+  pub counted : sum_by (λ v. length (draws v).numbers + length (draws v).late) views ≡ counter
 
 -- the rule of a table with a plan
 pub record IsRuled (rows : ℕ) (plan : Pieces) (claimed done judged : ℕ) (headers : List ℕ) (views : List ClaimView) : Type 0 where

@@ -5,7 +5,7 @@ use Rattle.claim_rule.specs.declared.view.ClaimView.{ClaimView}
 use Rattle.claim_rule.specs.declared.table.ClaimTable.{ClaimTable}
 use Rattle.claim_rule.specs.declared.seat.ClaimSeat.{ClaimSeat}
 use Rattle.claim_rule.specs.Plan.{Pieces, piece_of, IsPlan}
-use Rattle.claim_rule.specs.Views.{times, fresh}
+use Rattle.claim_rule.specs.Views.{times, fresh, claim_drawn, judge_drawn}
 
 -- what a seat knows
 abbrev pub view_of : ClaimSeat → ClaimView
@@ -15,17 +15,31 @@ view_of seat = seat.seat.me.0
 abbrev pub rows_of : ClaimTable → ℕ
 rows_of table = table.rows
 
--- the seat is one of this table, and knows its plan
+-- the seat is one of this table, and knows a plan of the table's rows and pieces, which is that of each seat that it joins
 pub record IsSeatOf (table : ClaimTable) (seat : ClaimSeat) : Type 0 where
   pub same : seat.seat.table_id ≡ table.table.shared.table_id
   pub planned : IsPlan (view_of seat).plan table.rows table.pieces
   pub opened : (view_of seat).closed ≡ false
   pub some : 0 < (view_of seat).shares
 
--- what a draw tells: a number below n that the seat lacked, of fewer than n that it had; or nothing
-abbrev pub DrawTells : ℕ → Draws → Option ℕ → Type 0
-DrawTells n before (Some x) = (x < n) × (times x before.numbers ≡ 0) × (length before.numbers < n)
-DrawTells n before None = Unit {0}
+-- what a draw tells that gave the number found: it is below n, and one that the seat lacked, of fewer than n that it had;
+-- or it is not below n
+abbrev pub DrawTells : ℕ → Draws → ℕ → Option ℕ → Type 0
+DrawTells n before found (Some x) = (x < n) × (times x before.numbers ≡ 0) × (length before.numbers < n) × (x ≡ found)
+DrawTells n before found None = n ≤ found
+
+-- one draw of a counter: the number that it gave, the view that it leaves, and what it tells
+pub record IsDraw (draws : ClaimView → Draws) (drawn : Option ℕ → ℕ → ClaimView → ClaimView) (old new : ClaimView) (result : Option ℕ) : Type 0 where
+  pub found : ℕ
+  pub leaves : new ≡ drawn result found old
+  pub tells : DrawTells (length old.plan) (draws old) found result
+
+-- a draw of a claim piece, and one of a judging piece
+abbrev pub IsClaimDraw : ClaimView → ClaimView → Option ℕ → Type 0
+IsClaimDraw = IsDraw (λ v. v.claiming) claim_drawn
+
+abbrev pub IsJudgeDraw : ClaimView → ClaimView → Option ℕ → Type 0
+IsJudgeDraw = IsDraw (λ v. v.judging) judge_drawn
 
 -- the plan has the pair for a number that the seat has drawn and not finished
 pub record IsOwed (v : ClaimView) (row word : ℕ) : Type 0 where
@@ -57,5 +71,5 @@ pub record IsFreshSeatOf (table : ClaimTable) (plan : Pieces) (seat : ClaimSeat)
 pub record CanGive (v : ClaimView) (shares : ℕ) : Type 0 where
   pub some : 0 < shares
   pub less : shares < v.shares
-  pub claiming : v.claiming.spent + shares ≤ v.shares
-  pub judging : v.judging.spent + shares ≤ v.shares
+  pub claiming : length v.claiming.late + shares ≤ v.shares
+  pub judging : length v.judging.late + shares ≤ v.shares

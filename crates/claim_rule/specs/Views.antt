@@ -12,12 +12,13 @@ times x xs = count_by (λ y. y == x) xs
 abbrev pub without : ℕ → List ℕ → List ℕ
 without x xs = filter (λ y. not (y == x)) xs
 
+-- before the first draw
 abbrev pub no_draws : Draws
-no_draws = record { numbers = []; spent = 0 }
+no_draws = record { numbers = []; late = [] }
 
--- a seat that knows the plan and has done nothing
+-- a seat that knows the plan and has done nothing, but for the flag, which it may have from the seat that it was split from
 abbrev pub fresh : Pieces → ℕ → Bool → ClaimView
-fresh plan shares stable = record { closed = false; plan = plan; shares = shares; claiming = no_draws; pending = []; claims = []; stable = stable; judging = no_draws }
+fresh plan shares stable = record { closed = false; plan = plan; shares = shares; claiming = no_draws; pending = []; claims = []; looks = []; stable = stable; judging = no_draws; joined = [] }
 
 -- what a join leaves of the seat that was joined
 abbrev pub spent_view : ClaimView
@@ -25,20 +26,21 @@ spent_view = fresh [] 0 false
 
 -- the only view of a table that has no plan yet
 abbrev pub closed_view : ClaimView
-closed_view = record { closed = true; plan = []; shares = 0; claiming = no_draws; pending = []; claims = []; stable = false; judging = no_draws }
+closed_view = record { closed = true; plan = []; shares = 0; claiming = no_draws; pending = []; claims = []; looks = []; stable = false; judging = no_draws; joined = [] }
 
--- draws after one more, which gave a number or came too late
-abbrev pub draws_after : Option ℕ → Draws → Draws
-draws_after (Some x) d = record { numbers = d.numbers ++ x ∷ []; spent = d.spent }
-draws_after None d = record { numbers = d.numbers; spent = d.spent + 1 }
+-- draws after one more, which is of a piece, or came too late and gave this number
+abbrev pub draws_after : Option ℕ → ℕ → Draws → Draws
+draws_after (Some x) found d = record { numbers = d.numbers ++ x ∷ []; late = d.late }
+draws_after None found d = record { numbers = d.numbers; late = d.late ++ found ∷ [] }
 
+-- the pieces that aren't finished after a draw, which is of one more or came too late
 abbrev pub pending_after : Option ℕ → List ℕ → List ℕ
 pending_after (Some x) xs = xs ++ x ∷ []
 pending_after None xs = xs
 
--- draw a claim piece
-abbrev pub claim_drawn : Option ℕ → ClaimView → ClaimView
-claim_drawn drawn v = record v { claiming = draws_after drawn v.claiming; pending = pending_after drawn v.pending }
+-- draw a claim piece, where the draw gave the number found
+abbrev pub claim_drawn : Option ℕ → ℕ → ClaimView → ClaimView
+claim_drawn drawn found v = record v { claiming = draws_after drawn found v.claiming; pending = pending_after drawn v.pending }
 
 -- claim a row
 abbrev pub row_claimed : ℕ → ℕ → ClaimView → ClaimView
@@ -48,25 +50,27 @@ row_claimed row word v = record v { claims = v.claims ++ (row, word) ∷ [] }
 abbrev pub piece_finished : ℕ → ClaimView → ClaimView
 piece_finished piece v = record v { pending = without piece v.pending }
 
--- look at done, which counts so many pieces
+-- look at the done word, which gave this count of pieces
 abbrev pub done_seen : ℕ → ClaimView → ClaimView
-done_seen done v = record v { stable = done == length v.plan }
+done_seen done v = record v { looks = v.looks ++ done ∷ []; stable = done == length v.plan }
 
--- draw a judging piece
-abbrev pub judge_drawn : Option ℕ → ClaimView → ClaimView
-judge_drawn drawn v = record v { judging = draws_after drawn v.judging }
+-- draw a judging piece, where the draw gave the number found
+abbrev pub judge_drawn : Option ℕ → ℕ → ClaimView → ClaimView
+judge_drawn drawn found v = record v { judging = draws_after drawn found v.judging }
 
--- split a seat: the caller's keeps the other shares, and the new one has the plan, the flag and a part of the shares
+-- split a seat: the caller's keeps the other shares
 abbrev pub shares_kept : ℕ → ClaimView → ClaimView
 shares_kept part v = record v { shares = v.shares - part }
 
+-- and the new one has the plan, the flag and a part of the shares
 abbrev pub shares_given : ℕ → ClaimView → ClaimView
 shares_given part v = fresh v.plan part v.stable
 
--- join a seat
+-- what both have drawn from a counter
 abbrev pub draws_joined : Draws → Draws → Draws
-draws_joined d e = record { numbers = d.numbers ++ e.numbers; spent = d.spent + e.spent }
+draws_joined d e = record { numbers = d.numbers ++ e.numbers; late = d.late ++ e.late }
 
+-- join a seat, whose plan is kept beside the caller's
 abbrev pub views_joined : ClaimView → ClaimView → ClaimView
 views_joined v w = record {
   closed = v.closed;
@@ -75,6 +79,8 @@ views_joined v w = record {
   claiming = draws_joined v.claiming w.claiming;
   pending = v.pending ++ w.pending;
   claims = v.claims ++ w.claims;
+  looks = v.looks ++ w.looks;
   stable = v.stable || w.stable;
   judging = draws_joined v.judging w.judging;
+  joined = w.plan ∷ (v.joined ++ w.joined);
 }

@@ -3,9 +3,10 @@
 //! A table is made for one plan, which only contracts see: for each piece of work its pairs of a row and a
 //! word. Its seats draw the pieces, claim their rows by the greatest word, and finish them, in any order and
 //! each in its own thread. A seat that has seen all pieces finished reads from each header the greatest word
-//! that the plan has for the row, or 0 (`header`), and draws each piece once more, to judge it. A number that
-//! a seat draws is one that it lacked, and seats that are joined show that no number was given twice
-//! (`join`). No call but `new` takes memory, none waits, and none needs a handle.
+//! that the plan has for the row, or 0 (`header`), and draws pieces once more, to judge them. A number that a
+//! seat draws is one that it lacked; that no two seats draw one number is told where they are joined (`join`).
+//!
+//! The signatures show that no call but `new` takes memory, and that none has a handle to wait by.
 //!
 //! `specs/Rule.antt` has what holds of the words between any two steps, `specs/Views.antt` the kinds of step,
 //! and `specs/Seats.antt` the words of these contracts.

@@ -8,6 +8,8 @@ pub trait ClaimPlan {
     ghost plan: { Pieces };
 }
 
+/// The plan of a call that passes `Brand` for it: there the caller's proof picks the plan, as a crate above does
+/// whose plan is that of its input.
 impl ClaimPlan for Brand {
     ghost use Rattle.std.specs.Prelude.{[]};
 

@@ -124,13 +124,14 @@ impl ClaimTable {
         }
     }
 
-    /// Takes in what another seat has drawn, claimed and seen, and its shares. No number stands twice in the
-    /// lists that this gives, so none was given to both seats.
+    /// Takes in what another seat has drawn, claimed and seen, and its shares. Both have one plan. No number
+    /// stands twice in the lists that this gives, so none was given to both seats.
     pub fn join(&self, seat: &mut ClaimSeat, other: ClaimSeat)
         requires seat { IsSeatOf self.now seat.old }
         requires other { IsSeatOf self.now other }
         ensures seat { IsSeatOf self.now seat.new }
         ensures view { view_of seat.new ≡ views_joined (view_of seat.old) (view_of other) }
+        ensures same_plan { (view_of seat.old).plan ≡ (view_of other).plan }
         ensures once { IsOnce (view_of seat.new) }
         ensures apart { AreApart (view_of seat.old) (view_of other) }
     {

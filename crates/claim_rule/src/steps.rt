@@ -1,8 +1,8 @@
 //! The steps that a seat does on the words.
-ghost use Rattle.std.specs.Prelude.{◌≡◌, ◌<◌, ◌≤◌, true, length};
+ghost use Rattle.std.specs.Prelude.{◌≡◌, ◌<◌, ◌≤◌, true, All, length};
 ghost use Rattle.claim_rule.specs.Plan.{final_of};
-ghost use Rattle.claim_rule.specs.Views.{claim_drawn, row_claimed, piece_finished, done_seen, judge_drawn};
-ghost use Rattle.claim_rule.specs.Seats.{view_of, rows_of, IsSeatOf, DrawTells, IsOwed, IsClaimed};
+ghost use Rattle.claim_rule.specs.Views.{row_claimed, piece_finished, done_seen};
+ghost use Rattle.claim_rule.specs.Seats.{view_of, rows_of, IsSeatOf, IsClaimDraw, IsJudgeDraw, IsOwed, IsClaimed};
 ghost use Rattle.claim_rule.specs.inner.Steps.{drawn_at};
 
 use crate::plan::Number;
@@ -12,14 +12,13 @@ use crate::table::{CLAIMED, ClaimTable, DONE, HEADERS, JUDGED};
 use std::marker::Brand;
 
 impl ClaimTable {
-    /// Draws a piece to claim for. `None` comes exactly where the draw found the counter at the number of
-    /// pieces or above, and spends one share of the seat for these draws.
+    /// Draws a piece to claim for. `None` comes exactly where the draw gave a number that isn't below the number
+    /// of pieces; the seat keeps that number, and spends one of its shares for these draws.
     pub fn draw_claim(&self, seat: &mut ClaimSeat) -> Option<u32>
         requires seat { IsSeatOf self.now seat.old }
-        requires unspent { (view_of seat.old).claiming.spent < (view_of seat.old).shares }
+        requires unspent { length (view_of seat.old).claiming.late < (view_of seat.old).shares }
         ensures seat { IsSeatOf self.now seat.new }
-        ensures view { view_of seat.new ≡ claim_drawn result (view_of seat.old) }
-        ensures number { DrawTells (length (view_of seat.old).plan) (view_of seat.old).claiming result }
+        ensures draw { IsClaimDraw (view_of seat.old) (view_of seat.new) result }
     {
         let found = self
             .table
@@ -73,25 +72,28 @@ impl ClaimTable {
             .fetch_add::<Finish<Q>>(&mut seat.seat, DONE, 1);
     }
 
-    /// How many pieces are finished. The seat has the flag from then on exactly where these are all.
+    /// How many pieces are finished: what this call's one look at the done word gave, which the seat keeps. It
+    /// is never less than what an earlier look gave. The seat has the flag from then on exactly where these are
+    /// all.
     pub fn done(&self, seat: &mut ClaimSeat) -> u32
         requires { IsSeatOf self.now seat.old }
         ensures seat { IsSeatOf self.now seat.new }
         ensures view { view_of seat.new ≡ done_seen result (view_of seat.old) }
         ensures within { result ≤ length (view_of seat.old).plan }
         ensures still { (view_of seat.old).stable ≡ true → result ≡ length (view_of seat.old).plan }
+        ensures risen { All (λ seen. seen ≤ result) (view_of seat.old).looks }
     {
-        self.table.shared.load::<SeeDone>(&mut seat.seat, DONE) as u32
+        let seen = self.table.shared.load::<SeeDone>(&mut seat.seat, DONE);
+        seen as u32
     }
 
     /// Draws a piece to judge, once the seat has seen all pieces finished. `None` comes as in `draw_claim`.
     pub fn draw_judge(&self, seat: &mut ClaimSeat) -> Option<u32>
         requires seat { IsSeatOf self.now seat.old }
         requires stable { (view_of seat.old).stable ≡ true }
-        requires unspent { (view_of seat.old).judging.spent < (view_of seat.old).shares }
+        requires unspent { length (view_of seat.old).judging.late < (view_of seat.old).shares }
         ensures seat { IsSeatOf self.now seat.new }
-        ensures view { view_of seat.new ≡ judge_drawn result (view_of seat.old) }
-        ensures number { DrawTells (length (view_of seat.old).plan) (view_of seat.old).judging result }
+        ensures draw { IsJudgeDraw (view_of seat.old) (view_of seat.new) result }
     {
         let found = self
             .table

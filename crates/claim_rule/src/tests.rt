@@ -1,6 +1,6 @@
 //! What no clause says: that counters start at 0 and draws come in their order, and that seats of several
 //! threads come to an end of a plan.
-ghost use Rattle.std.specs.Prelude.{◌≡◌, ◌+◌, ◌<◌, true, All};
+ghost use Rattle.std.specs.Prelude.{◌≡◌, ◌+◌, ◌<◌, true, All, length};
 ghost use Rattle.claim_rule.specs.Seats.{view_of, rows_of, IsFreshSeatOf};
 ghost use Rattle.claim_rule.specs.Views.{piece_finished};
 ghost use Rattle.claim_rule.specs.inner.Trial.{three_pieces, Plays, IsAtWork, IsClaiming, pairs_claimed};
@@ -66,9 +66,9 @@ fn headers(table: &ClaimTable, seat: &mut ClaimSeat) -> [u64; 3]
 /// Claims and finishes pieces until there is none.
 fn claim_all(table: &ClaimTable, seat: &mut ClaimSeat)
     requires plays { Plays table.now seat.old }
-    requires unspent { (view_of seat.old).claiming.spent < (view_of seat.old).shares }
+    requires unspent { length (view_of seat.old).claiming.late < (view_of seat.old).shares }
     ensures plays { Plays table.now seat.new }
-    ensures late { (view_of seat.new).claiming.spent ≡ (view_of seat.old).claiming.spent + 1 }
+    ensures late { length (view_of seat.new).claiming.late ≡ length (view_of seat.old).claiming.late + 1 }
     ensures shares { (view_of seat.new).shares ≡ (view_of seat.old).shares }
     ensures judging { (view_of seat.new).judging ≡ (view_of seat.old).judging }
 {

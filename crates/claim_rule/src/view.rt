@@ -5,8 +5,8 @@ use std::collections::LinkedList;
 pub struct Draws {
     /// The numbers, in the order in which they were drawn.
     pub numbers: LinkedList<u32>,
-    /// How many of its draws came too late to give a number.
-    pub spent: u64,
+    /// The numbers, none below the count of pieces, that its draws gave that came too late.
+    pub late: LinkedList<u64>,
 }
 
 /// What a seat knows and has done.
@@ -23,8 +23,12 @@ pub struct ClaimView {
     pub pending: LinkedList<u32>,
     /// The pairs that were claimed.
     pub claims: LinkedList<(u32, u64)>,
+    /// What each look at the done word gave.
+    pub looks: LinkedList<u32>,
     /// Whether all pieces were seen finished.
     pub stable: bool,
     /// The pieces drawn for judging.
     pub judging: Draws,
+    /// The plans of the seats that it took in.
+    pub joined: LinkedList<LinkedList<LinkedList<(u32, u64)>>>,
 }

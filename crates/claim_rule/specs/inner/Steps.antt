@@ -1,5 +1,5 @@
 -- Inner: what each step on a word tells its seat. The word found is the one before the step.
-use Rattle.std.specs.Prelude.{◌≡◌, ℕ, ◌-◌, ◌^◌, ◌<◌, ◌≤◌, true, false, nat_lt, if◌then◌else◌, Option, Some, None, length}
+use Rattle.std.specs.Prelude.{◌≡◌, ℕ, ◌-◌, ◌^◌, ◌<◌, ◌≤◌, true, false, nat_lt, if◌then◌else◌, Option, Some, None, All, length}
 use Rattle.atomic_table.specs.Table.{Me, Step}
 use Rattle.claim_rule.specs.declared.view.Draws.{Draws}
 use Rattle.claim_rule.specs.declared.view.ClaimView.{ClaimView}
@@ -16,8 +16,8 @@ abbrev pub drawn_at : ℕ → ℕ → Option ℕ
 drawn_at found n = if nat_lt found n then Some found else None
 
 -- a draw: the seat lacked what it gives, and had drawn fewer numbers than there are pieces
-pub record DrawsFrom (draws : ClaimView → Draws) (after : Option ℕ → ClaimView → ClaimView) (me : Seated) (found : ℕ) (now : Seated) : Type 0 where
-  pub leaves : now ≡ (after (drawn_at found (length me.0.plan)) me.0, me.1)
+pub record DrawsFrom (draws : ClaimView → Draws) (after : Option ℕ → ℕ → ClaimView → ClaimView) (me : Seated) (found : ℕ) (now : Seated) : Type 0 where
+  pub leaves : now ≡ (after (drawn_at found (length me.0.plan)) found me.0, me.1)
   pub new : found < length me.0.plan → times found (draws me.0).numbers ≡ 0
   pub room : found < length me.0.plan → length (draws me.0).numbers < length me.0.plan
 
@@ -39,12 +39,13 @@ pub record SeesDone (step : Step (Unit {0})) (me : Seated) (found : ℕ) (now : 
   pub within : found ≤ length me.0.plan
   pub small : found < 2 ^ 32
   pub still : me.0.stable ≡ true → found ≡ length me.0.plan
+  pub risen : All (λ seen. seen ≤ found) me.0.looks
 
 abbrev pub ReadsHeader : Step (Unit {0}) → Seated → ℕ → Seated → Type 0
 ReadsHeader step me found now = (now ≡ me) × (found ≡ final_of me.0.plan (step.word - 3))
 
 abbrev pub Settles : Step (Unit {0}) → Seated → ℕ → Seated → Type 0
-Settles step me found now = (now ≡ me) × IsOnce me.0
+Settles step me found now = (now ≡ me) × IsOnce me.0 × All (λ p. p ≡ me.0.plan) me.0.joined
 
 abbrev pub Opens : Pieces → ℕ → Step (Unit {0}) → Seated → ℕ → Seated → Type 0
 Opens plan shares step me found now = now ≡ (fresh plan shares false, me.1)

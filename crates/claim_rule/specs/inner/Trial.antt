@@ -1,5 +1,5 @@
 -- Inner: the plan that the tests play, and what they know of a seat.
-use Rattle.std.specs.Prelude.{◌≡◌, ℕ, ◌<◌, true, [], ◌∷◌, ◌++◌}
+use Rattle.std.specs.Prelude.{◌≡◌, ℕ, ◌<◌, true, [], ◌∷◌, ◌++◌, length}
 use Rattle.claim_rule.specs.declared.table.ClaimTable.{ClaimTable}
 use Rattle.claim_rule.specs.declared.seat.ClaimSeat.{ClaimSeat}
 use Rattle.claim_rule.specs.declared.view.ClaimView.{ClaimView}
@@ -29,18 +29,18 @@ pairs_claimed piece v = record v { claims = v.claims ++ piece_of three_pieces pi
 -- before the first of its draws that comes too late: of claim pieces, and of judging pieces
 pub record IsClaiming (table : ClaimTable) (seat : ClaimSeat) : Type 0 where
   pub plays : Plays table seat
-  pub claims : (view_of seat).claiming.spent ≡ 0
-  pub judges : (view_of seat).judging.spent ≡ 0
+  pub claims : length (view_of seat).claiming.late ≡ 0
+  pub judges : length (view_of seat).judging.late ≡ 0
   pub shares : (view_of seat).shares ≡ 1
 
 pub record IsJudging (table : ClaimTable) (seat : ClaimSeat) : Type 0 where
   pub plays : Plays table seat
   pub flag : (view_of seat).stable ≡ true
-  pub judges : (view_of seat).judging.spent ≡ 0
+  pub judges : length (view_of seat).judging.late ≡ 0
   pub shares : (view_of seat).shares ≡ 1
 
 -- draws that gave a number leave the shares, and how many came too late
 pub record IsAsLate (old new : ClaimSeat) : Type 0 where
-  pub claims : (view_of new).claiming.spent ≡ (view_of old).claiming.spent
+  pub claims : (view_of new).claiming.late ≡ (view_of old).claiming.late
   pub judging : (view_of new).judging ≡ (view_of old).judging
   pub shares : (view_of new).shares ≡ (view_of old).shares

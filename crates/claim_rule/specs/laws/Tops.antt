@@ -1,4 +1,4 @@
--- The greatest value of a function over a list, and the greatest word of a plan for a row.
+-- Laws: the greatest value of a function over a list, and the greatest word of a plan for a row.
 use Rattle.std.proofs.Common.{◌≡◌, ℕ, zero, suc, ◌<◌, ◌≤◌, max, Bool, cond, List, [], ◌∷◌, ◌++◌, length, refl, sym, ap, arith, eq-eqb, lt_of_not-le}
 use Rattle.std.specs.Prelude.{Contains, slice_index_or}
 use mathlib.Core.Option.{some, some-ne-none, some-injective}

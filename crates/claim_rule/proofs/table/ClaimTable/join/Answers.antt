@@ -1,7 +1,7 @@
 use Rattle.std.proofs.Common.{◌≡◌, false, ap, ◌∙◌, arith}
 use Rattle.claim_rule.specs.declared.view.ClaimView.{ClaimView}
 use Rattle.claim_rule.specs.Views.{views_joined}
-use Rattle.claim_rule.specs.laws.Joins.{joined_apart}
+use Rattle.claim_rule.specs.laws.Joins.{joined_apart, joined_plan}
 use Rattle.claim_rule.proofs.Stepping.{joins, settles}
 use Rattle.claim_rule.proofs.table.ClaimTable.join.Goals as goal
 
@@ -24,6 +24,14 @@ load-requires c =
     let some_share = c.requires.seat.some in
     let same : s.table_id ≡ t.table_id = cc in
     (same, omega arith, settles t.key t.table_id.slots s.id s.me opened (omega arith))
+
+pub returns-clause-same_plan : goal.returns-clause-same_plan
+returns-clause-same_plan c =
+    let s = c.join_seat.new.seat in
+    let v = c.args.seat.now.seat.me.0 in
+    let w = c.args.other.seat.me.0 in
+    let now : s.me.0 ≡ views_joined v w = cc in
+    joined_plan v w s.me.0 now c.load.ensures.2.2
 
 pub returns-clause-apart : goal.returns-clause-apart
 returns-clause-apart c =
