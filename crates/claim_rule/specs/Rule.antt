@@ -29,6 +29,7 @@ pub record AreLate (n shares : ℕ) (late : List ℕ) : Type 0 where
 
 -- what the rule says of one view, where the done word counts so many pieces
 pub record Fits (plan : Pieces) (done : ℕ) (v : ClaimView) : Type 0 where
+  -- the table has its plan
   pub opened : v.closed ≡ false
   -- each view has the plan but a spent one, which has nothing, and each that it took in had it
   pub same : 0 < v.shares → v.plan ≡ plan

@@ -15,7 +15,7 @@ view_of seat = seat.seat.me.0
 abbrev pub rows_of : ClaimTable → ℕ
 rows_of table = table.rows
 
--- the seat is one of this table, and knows a plan of the table's rows and pieces, which is that of each seat that it joins
+-- the seat is one of this table, knows a plan of the table's rows and pieces, and has a share
 pub record IsSeatOf (table : ClaimTable) (seat : ClaimSeat) : Type 0 where
   pub same : seat.seat.table_id ≡ table.table.shared.table_id
   pub planned : IsPlan (view_of seat).plan table.rows table.pieces

@@ -16,7 +16,7 @@ without x xs = filter (λ y. not (y == x)) xs
 abbrev pub no_draws : Draws
 no_draws = record { numbers = []; late = [] }
 
--- a seat that knows the plan and has done nothing, but for the flag, which it may have from the seat that it was split from
+-- a seat that knows the plan and has done nothing; it may have the flag, from the seat that it was split from
 abbrev pub fresh : Pieces → ℕ → Bool → ClaimView
 fresh plan shares stable = record { closed = false; plan = plan; shares = shares; claiming = no_draws; pending = []; claims = []; looks = []; stable = stable; judging = no_draws; joined = [] }
 
