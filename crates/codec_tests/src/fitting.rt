@@ -1,7 +1,9 @@
 //! Whether a batch that was built fits a schema, so that it may be spelled.
 ghost use Rattle.std.specs.Prelude.{◌≡◌, ◌+◌, ◌<◌, ◌≤◌, IsTrue, length, slice_index};
-ghost use Rattle.write_set.specs.Journal.{IsCandidate};
+ghost use Rattle.std.specs.List.{All};
+ghost use Rattle.write_set.specs.Journal.{IsBatch, IsCandidate};
 ghost use Rattle.geo_schema.specs.Schemas.{table_at};
+ghost use Rattle.set_codec.specs.Rules.{IsRegionOf, IsSealable};
 ghost use Rattle.set_codec.specs.Fits.{AreTaken, FitsKey, FitsChange, FitsTable, FitsTables, FitsSchema};
 
 use geo_base::limits::{
@@ -70,15 +72,26 @@ fn fits_table(alloc: Global, schema: &Schema, row: &RowId, change: &Change) -> b
         && fits_change(alloc, schema, row, change)
 }
 
+fn changes_fit(alloc: Global, schema: &Schema, changes: &[(RowId, Change)]) -> bool
+    ensures { IsTrue result → All (FitsTable schema.now) changes.now }
+{
+    for change in changes {
+        if !fits_table(alloc, schema, &change.0, &change.1) {
+            return false;
+        }
+    }
+    true
+}
+
 fn fits_tables(alloc: Global, schema: &Schema, candidate: &Candidate) -> bool
     ensures { IsTrue result → FitsTables schema.now candidate.now }
 {
     size_is_length();
-    let changes = candidate.set.changes();
-    changes
-        .iter()
-        .all(|change| fits_table(alloc, schema, &change.0, &change.1))
-        && candidate.set.size() <= MAX_SET_BYTES
+    let _tables = schema.count();
+    if !changes_fit(alloc, schema, candidate.set.changes()) {
+        return false;
+    }
+    candidate.set.size() <= MAX_SET_BYTES
 }
 
 fn is_lawful(epoch: Epoch, candidate: &Candidate) -> bool
@@ -89,21 +102,50 @@ fn is_lawful(epoch: Epoch, candidate: &Candidate) -> bool
     start < epoch && epoch - start <= MAX_AGE && !changes.is_empty()
 }
 
-/// Whether the batch fits the schema.
-pub fn fits(alloc: Global, schema: &Schema, batch: &Batch) -> bool
-    ensures { IsTrue result → FitsSchema schema.now batch.now }
+fn candidates_fit(alloc: Global, schema: &Schema, candidates: &[Candidate]) -> bool
+    ensures { IsTrue result → All (FitsTables schema.now) candidates.now }
 {
-    size_is_length();
+    for candidate in candidates {
+        if !fits_tables(alloc, schema, candidate) {
+            return false;
+        }
+    }
+    true
+}
+
+fn are_lawful(epoch: Epoch, candidates: &[Candidate]) -> bool
+    ensures { IsTrue result → All (IsCandidate epoch) candidates.now }
+{
+    for candidate in candidates {
+        if !is_lawful(epoch, candidate) {
+            return false;
+        }
+    }
+    true
+}
+
+// Whether the batch is one that its region may seal, its size apart.
+fn may_be_sealed(batch: &Batch) -> bool
+    ensures region { IsTrue result → IsRegionOf MAX_REGIONS batch.now.region }
+    ensures sealable { IsTrue result → IsSealable batch.now.epoch }
+    ensures lawful { IsTrue result → IsBatch batch.now.region batch.now.epoch batch.now }
+{
     let items = batch.items.items();
     batch.region < MAX_REGIONS
         && batch.epoch > 0
         && batch.epoch < LAST_EPOCH
         && items.len() <= MAX_CANDIDATES as usize
-        && items
-            .iter()
-            .all(|candidate| is_lawful(batch.epoch, candidate))
-        && items
-            .iter()
-            .all(|candidate| fits_tables(alloc, schema, candidate))
-        && batch_size(batch) <= MAX_BATCH_BYTES
+        && are_lawful(batch.epoch, items)
+}
+
+/// Whether the batch fits the schema.
+pub fn fits(alloc: Global, schema: &Schema, batch: &Batch) -> bool
+    ensures { IsTrue result → FitsSchema schema.now batch.now }
+{
+    size_is_length();
+    let _tables = schema.count();
+    if !may_be_sealed(batch) || !candidates_fit(alloc, schema, batch.items.items()) {
+        return false;
+    }
+    batch_size(batch) <= MAX_BATCH_BYTES
 }
