@@ -3,7 +3,7 @@ ghost use Rattle.std.specs.Prelude.{◌≡◌, ◌≤◌, Some, vec_len};
 ghost use Rattle.geo_io.specs.Memory.{eight_lists};
 
 use crate::entries::{ByteList, Entries};
-use crate::keepers::MAX_WIDTH;
+use crate::limits::MAX_WIDTH;
 use crate::{Failed, IoFault, Keepers};
 use std::alloc::Global;
 use std::marker::Model;
@@ -18,7 +18,7 @@ pub struct CleanKeepers {
 impl Model for CleanKeepers {
     ghost use Rattle.std.specs.Prelude.{◌≡◌, length};
     ghost use Rattle.geo_io.specs.Told.{Lists};
-    ghost use Rattle.geo_io.specs.declared.keepers.TheConstants.{MAX_WIDTH};
+    ghost use Rattle.geo_io.specs.declared.limits.TheConstants.{MAX_WIDTH};
 
     ghost Value = { Lists };
 
@@ -60,7 +60,7 @@ impl CleanKeepers {
 }
 
 impl Keepers for CleanKeepers {
-    ghost use Rattle.geo_io.specs.declared.keepers.TheConstants.{MAX_WIDTH};
+    ghost use Rattle.geo_io.specs.declared.limits.TheConstants.{MAX_WIDTH};
 
     ghost lists = { λ it. Some it };
 

@@ -6,13 +6,10 @@ ghost use Rattle.geo_io.specs.Told.{Lists, list_of, Gains, MayGain, Moves};
 use crate::{Failed, IoFault};
 use std::alloc::Global;
 
-/// The greatest width of keepers: how many regions there can be.
-pub const MAX_WIDTH: usize = 8;
-
 /// Keeps a list of entries for each region below its width. Whether the lists are told never changes, and
 /// what is told has one list for each of these regions.
 pub trait Keepers {
-    ghost use Rattle.geo_io.specs.declared.keepers.TheConstants.{MAX_WIDTH};
+    ghost use Rattle.geo_io.specs.declared.limits.TheConstants.{MAX_WIDTH};
 
     /// The lists of all regions, where the keepers tell them.
     ghost lists: { Self → Option Lists };
