@@ -153,6 +153,7 @@ delete_text delete = codes "DELETE FROM " ++ delete.table ++ filter_text delete.
 -- the canonical text of a statement
 abbrev pub printed : Statement → List ℕ
 printed (statement.Select select) = select_text select
+printed (statement.SelectForUpdate select) = select_text select ++ codes " FOR UPDATE"
 printed (statement.Insert insert) = insert_text insert
 printed (statement.Update update) = update_text update
 printed (statement.Delete delete) = delete_text delete

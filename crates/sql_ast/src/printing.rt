@@ -21,6 +21,10 @@ fn print_statement(out: &mut String, statement: &Statement) -> Result<(), NoMemo
 {
     match statement {
         Statement::Select(select) => print_select(out, select)?,
+        Statement::SelectForUpdate(select) => {
+            print_select(out, select)?;
+            write!(out, " FOR UPDATE")?;
+        }
         Statement::Insert(insert) => print_insert(out, insert)?,
         Statement::Update(update) => print_update(out, update)?,
         Statement::Delete(delete) => print_delete(out, delete)?,

@@ -11,6 +11,8 @@ use std::alloc::Global;
 #[derive(Drop)]
 pub enum Statement {
     Select(SelectStmt),
+    /// A query with FOR UPDATE behind it.
+    SelectForUpdate(SelectStmt),
     Insert(InsertStmt),
     Update(UpdateStmt),
     Delete(DeleteStmt),
@@ -26,6 +28,9 @@ impl Duplicate for Statement {
     fn copy(&self, alloc: Global) -> Result<Statement, NoMemory> {
         match self {
             Statement::Select(select) => Ok(Statement::Select(select.copy(alloc)?)),
+            Statement::SelectForUpdate(select) => {
+                Ok(Statement::SelectForUpdate(select.copy(alloc)?))
+            }
             Statement::Insert(insert) => Ok(Statement::Insert(insert.copy(alloc)?)),
             Statement::Update(update) => Ok(Statement::Update(update.copy(alloc)?)),
             Statement::Delete(delete) => Ok(Statement::Delete(delete.copy(alloc)?)),
