@@ -34,6 +34,7 @@ pub mod StatementParts
 pub mod ReaderNames
 pub mod ReaderItems
 pub mod ReaderQueries
+pub mod ReaderForUpdate
 pub mod ReaderWrites
 pub mod ReaderStatements
 pub mod StatementMarks

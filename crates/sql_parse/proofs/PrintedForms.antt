@@ -6,7 +6,7 @@ use Rattle.sql_ast.specs.declared.select.AstValue.TheVariants as of_value
 use Rattle.sql_ast.specs.declared.select.Items.TheVariants as of_items
 use Rattle.sql_ast.specs.declared.statement.Statement.TheVariants as of_statement
 use Rattle.sql_parse.specs.Trees.{Tree, value}
-use Rattle.sql_parse.specs.Forms.{Several, listed, ValueForm, Plain, CountAll, Count, Sum, Min, Max, value_of, IsValue, ItemForm, item_of, IsItem, ItemsForm, Star, Listed, items_of, AreItems, JoinForm, join_of, IsJoin, IfThere, listed_if, OrderForm, ordered_of, SelectForm, select_of, IsSelect, RowForm, row_of, IsRow, InsertForm, insert_of, SetForm, set_of, IsSet, UpdateForm, update_of, DeleteForm, delete_of, StatementForm, Select, Insert, Update, Delete, Begin, BeginAsOf, Commit, Rollback, Explain, statement_of, Each}
+use Rattle.sql_parse.specs.Forms.{Several, listed, ValueForm, Plain, CountAll, Count, Sum, Min, Max, value_of, IsValue, ItemForm, item_of, IsItem, ItemsForm, Star, Listed, items_of, AreItems, JoinForm, join_of, IsJoin, IfThere, listed_if, OrderForm, ordered_of, SelectForm, select_of, IsSelect, RowForm, row_of, IsRow, InsertForm, insert_of, SetForm, set_of, IsSet, UpdateForm, update_of, DeleteForm, delete_of, StatementForm, Select, SelectForUpdate, Insert, Update, Delete, Begin, BeginAsOf, Commit, Rollback, Explain, statement_of, Each}
 use Rattle.sql_parse.proofs.PrintedTrees.{canonical, same_value}
 
 -- ---- canonical forms
@@ -68,6 +68,7 @@ canonical_delete delete = record { table = delete.table; filter = option_map can
 
 abbrev pub canonical_form : StatementForm → StatementForm
 canonical_form (Select select) = Select (canonical_select select)
+canonical_form (SelectForUpdate select) = SelectForUpdate (canonical_select select)
 canonical_form (Insert insert) = Insert (canonical_insert insert)
 canonical_form (Update update) = Update (canonical_update update)
 canonical_form (Delete delete) = Delete (canonical_delete delete)
@@ -152,6 +153,7 @@ same_delete delete = λ i. record { table = delete.table; filter = same_option v
 
 pub same_statement : (form : StatementForm) → statement_of (canonical_form form) ≡ statement_of form
 same_statement (Select select) = ap of_statement.Select (same_select select)
+same_statement (SelectForUpdate select) = ap of_statement.SelectForUpdate (same_select select)
 same_statement (Insert insert) = ap of_statement.Insert (same_insert insert)
 same_statement (Update update) = ap of_statement.Update (same_update update)
 same_statement (Delete delete) = ap of_statement.Delete (same_delete delete)
@@ -196,6 +198,7 @@ module _ (P : Tree → Type 0) (keeps : (t : Tree) → P t → P (canonical t)) 
 
   pub kept : (form : StatementForm) → Each P form → Each P (canonical_form form)
   kept (Select select) each = kept_select select each
+  kept (SelectForUpdate select) each = kept_select select each
   kept (Insert insert) each = all_map (IsRow P) canonical_row kept_row (listed insert.rows) each
   kept (Update update) each = (
     all_map (IsSet P) canonical_set (λ set. keeps set.value) (listed update.sets) each.0,

@@ -2,11 +2,11 @@
 use Rattle.std.proofs.Common.{ℕ, List, ◌++◌, Option, Some, None, arith, codes}
 use Rattle.sql_ast.specs.declared.ast.AstOp.TheVariants as op
 use Rattle.sql_ast.specs.Printing.{columns_text, row_text, insert_text, set_text, update_text, delete_text, expression_text, printed}
-use Rattle.sql_lex.specs.declared.keyword.Keyword.TheVariants.{KInsert, KInto, KValues, KUpdate, KSet, KDelete, KFrom, KAs, KBegin, KOf, KEpoch, KCommit, KRollback, KExplain}
+use Rattle.sql_lex.specs.declared.keyword.Keyword.TheVariants.{KInsert, KInto, KValues, KUpdate, KSet, KDelete, KFrom, KAs, KBegin, KOf, KEpoch, KCommit, KRollback, KExplain, KFor}
 use Rattle.sql_lex.specs.declared.symbol.Symbol.TheVariants as symbol
 use Rattle.sql_parse.specs.Trees.{Outside, Mark, kinds, marks, value}
-use Rattle.sql_parse.specs.Forms.{word, sign, name_marks, maybe, Several, several_marks, filter_marks, listed_if, RowForm, row_marks, row_of, InsertForm, insert_marks, insert_of, SetForm, set_marks, set_of, UpdateForm, update_marks, update_of, DeleteForm, delete_marks, delete_of, StatementForm, Select, Insert, Update, Delete, Begin, BeginAsOf, Commit, Rollback, Explain, statement_marks, statement_of}
-use Rattle.sql_parse.proofs.PrintedPieces.{Prints, PrintsAlone, opens_blank, MayOpen, nothing_opens, behind, behind_alone, after, both, nothing, spaced, indented_alone}
+use Rattle.sql_parse.specs.Forms.{word, sign, name_marks, maybe, Several, several_marks, filter_marks, listed_if, RowForm, row_marks, row_of, InsertForm, insert_marks, insert_of, SetForm, set_marks, set_of, UpdateForm, update_marks, update_of, DeleteForm, delete_marks, delete_of, query_marks, for_update_marks, StatementForm, Select, SelectForUpdate, Insert, Update, Delete, Begin, BeginAsOf, Commit, Rollback, Explain, statement_marks, statement_of}
+use Rattle.sql_parse.proofs.PrintedPieces.{Prints, PrintsAlone, opens_blank, blank_opens, MayOpen, nothing_opens, behind, behind_alone, after, both, nothing, spaced, indented_alone}
 use Rattle.sql_parse.proofs.PrintedWords.{keyword, operator, number}
 use Rattle.sql_parse.proofs.PrintedTrees.{canonical}
 use Rattle.sql_parse.proofs.PrintedExpressions.{AreSpelled, front_of, rest_of, name_by, number_fits, closed, expression_prints}
@@ -70,6 +70,8 @@ delete_prints delete all =
 
 pub statement_prints : (form : StatementForm) → AreSpelled (kinds (statement_marks form)) → Prints (statement_marks (canonical_form form)) (printed (statement_of form))
 statement_prints (Select select) all = select_prints select all.1
+statement_prints (SelectForUpdate select) all =
+    behind (select_prints select (front_of (query_marks select) for_update_marks all.1)) (blank_opens (codes "FOR UPDATE")) (after (between KFor) (keyword Outside KUpdate))
 statement_prints (Insert insert) all = insert_prints insert all
 statement_prints (Update update) all = update_prints update all
 statement_prints (Delete delete) all = delete_prints delete all

@@ -1,6 +1,6 @@
 -- The reader of statements.
 use mathlib.Core.Path.{fun_ext}
-use Rattle.std.proofs.Common.{◌≡◌, ◌⊎◌, ℕ, List, [], ◌∷◌, Bool, true, false, Option, Some, None, refl, subst, inl, inr, true≢false}
+use Rattle.std.proofs.Common.{◌≡◌, ◌⊎◌, ℕ, List, [], ◌∷◌, ◌++◌, append-nil, Bool, true, false, Option, Some, None, refl, sym, ap, subst, inl, inr, true≢false}
 use Rattle.sql_ast.specs.declared.statement.Statement.{Statement}
 use Rattle.sql_ast.specs.declared.statement.Statement.TheVariants as of_statement
 use Rattle.sql_lex.specs.declared.keyword.Keyword.{Keyword}
@@ -9,8 +9,8 @@ use Rattle.sql_lex.specs.declared.token.TokenKind.{TokenKind}
 use Rattle.sql_lex.specs.declared.token.TokenKind.TheVariants as kind
 use Rattle.sql_parse.specs.inner.Kinds.{is_keyword}
 use Rattle.sql_parse.specs.Forms.{SelectForm, select_of, InsertForm, insert_of, UpdateForm, update_of, DeleteForm, delete_of, StatementForm, statement_of}
-use Rattle.sql_parse.specs.Forms.StatementForm.{Select, Insert, Update, Delete, Begin, BeginAsOf, Commit, Rollback, Explain}
-use Rattle.sql_parse.specs.inner.Reading.{Parser, ◌>>◌, ◌<$>◌, pure, begins, keyword, number, select, insert, update, delete, begin, statement}
+use Rattle.sql_parse.specs.Forms.StatementForm.{Select, SelectForUpdate, Insert, Update, Delete, Begin, BeginAsOf, Commit, Rollback, Explain}
+use Rattle.sql_parse.specs.inner.Reading.{Parser, ◌>>◌, ◌<$>◌, pure, begins, keyword, number, select, insert, update, delete, begin, query, statement}
 use Rattle.sql_parse.proofs.ExpressionLaws.{ExpressionLaws}
 use Rattle.sql_parse.proofs.ReaderParts.{Part}
 use Rattle.sql_parse.proofs.ReaderLaws.{IsReader, Ended, both, chained}
@@ -20,6 +20,7 @@ use Rattle.sql_parse.proofs.ReaderChoices.{behind, keyword_then, pure_reader, ch
 use Rattle.sql_parse.proofs.ReaderItems.{Clear, chosen_clear}
 use Rattle.sql_parse.proofs.ReaderNames.{keyword_reader, number_reader}
 use Rattle.sql_parse.proofs.ReaderQueries.{select_reader}
+use Rattle.sql_parse.proofs.ReaderForUpdate.{Query, query_parts, query_value, query_goes, query_reader}
 use Rattle.sql_parse.proofs.ReaderWrites.{insert_reader, update_reader, delete_reader}
 use Rattle.sql_parse.proofs.StatementParts.{word_part, number_parts, select_parts, insert_parts, update_parts, delete_parts, as_of_parts, statement_parts}
 
@@ -92,7 +93,7 @@ abbrev Late : Type 0
 Late = Option ℕ ⊎ (Unit {0} ⊎ (Unit {0} ⊎ SelectForm))
 
 abbrev Cases : Type 0
-Cases = SelectForm ⊎ (InsertForm ⊎ (UpdateForm ⊎ (DeleteForm ⊎ Late)))
+Cases = Query ⊎ (InsertForm ⊎ (UpdateForm ⊎ (DeleteForm ⊎ Late)))
 
 abbrev explain_parts : SelectForm → List Part
 explain_parts select = word_part KExplain ∷ word_part KSelect ∷ select_parts select
@@ -116,7 +117,7 @@ abbrev inserts_parts : InsertForm ⊎ (UpdateForm ⊎ (DeleteForm ⊎ Late)) →
 inserts_parts = either (behind (kind.Keyword KInsert) insert_parts) updates_parts
 
 abbrev cases_parts : Cases → List Part
-cases_parts = either (behind (kind.Keyword KSelect) select_parts) inserts_parts
+cases_parts = either (behind (kind.Keyword KSelect) query_parts) inserts_parts
 
 abbrev rollback_value : Unit {0} ⊎ SelectForm → Statement
 rollback_value = either (λ a. of_statement.Rollback) (λ s. of_statement.Explain (select_of s))
@@ -137,7 +138,7 @@ abbrev inserts_value : InsertForm ⊎ (UpdateForm ⊎ (DeleteForm ⊎ Late)) →
 inserts_value = either (λ s. of_statement.Insert (insert_of s)) updates_value
 
 abbrev cases_value : Cases → Statement
-cases_value = either (λ s. of_statement.Select (select_of s)) inserts_value
+cases_value = either query_value inserts_value
 
 explains : Parser Statement
 explains = keyword KExplain >> keyword KSelect >> of_statement.Explain <$> select
@@ -161,7 +162,7 @@ inserts : Parser Statement
 inserts = choice (is_keyword KInsert) (keyword KInsert >> of_statement.Insert <$> insert) updates
 
 cases : Parser Statement
-cases = choice (is_keyword KSelect) (keyword KSelect >> of_statement.Select <$> select) inserts
+cases = choice (is_keyword KSelect) (keyword KSelect >> query) inserts
 
 same_cases : (tokens : List TokenKind) → cases tokens ≡ statement tokens
 unfolding cases inserts updates deletes lates commits rollbacks explains statement begins keyword
@@ -266,8 +267,9 @@ module _ (laws : ExpressionLaws) where
   cases_reader : IsReader cases_parts cases_value always cases
   unfolding cases
   cases_reader =
-      chosen_clear (behind (kind.Keyword KSelect) select_parts) (λ s. of_statement.Select (select_of s)) (keyword KSelect >> of_statement.Select <$> select) inserts_parts inserts_value inserts
-      (is_keyword KSelect) always (led_reader select_parts select_of _ select KSelect of_statement.Select (select_reader laws)) insert_case (λ form. keyword_itself KSelect) clear
+      chosen_clear (behind (kind.Keyword KSelect) query_parts) query_value (keyword KSelect >> query) inserts_parts inserts_value inserts (is_keyword KSelect) always
+      (to_the_end (behind (kind.Keyword KSelect) query_parts) query_value query_goes (keyword KSelect >> query) (keyword_then query_parts query_value query_goes query (query_reader laws) KSelect))
+      insert_case (λ form. keyword_itself KSelect) clear
     where
       clear : (form : InsertForm ⊎ (UpdateForm ⊎ (DeleteForm ⊎ Late))) → Clear (is_keyword KSelect) (inserts_parts form)
       clear (inl form) = refl
@@ -281,7 +283,8 @@ module _ (laws : ExpressionLaws) where
       (formed cases_parts cases_value cases always statement_parts statement_of to from to_parts to_value from_parts from_value cases_reader)
     where
       to : Cases → StatementForm
-      to (inl s) = Select s
+      to (inl (s, false)) = Select s
+      to (inl (s, true)) = SelectForUpdate s
       to (inr (inl s)) = Insert s
       to (inr (inr (inl s))) = Update s
       to (inr (inr (inr (inl s)))) = Delete s
@@ -292,7 +295,8 @@ module _ (laws : ExpressionLaws) where
       to (inr (inr (inr (inr (inr (inr (inr s))))))) = Explain s
 
       from : StatementForm → Cases
-      from (Select s) = inl s
+      from (Select s) = inl (s, false)
+      from (SelectForUpdate s) = inl (s, true)
       from (Insert s) = inr (inl s)
       from (Update s) = inr (inr (inl s))
       from (Delete s) = inr (inr (inr (inl s)))
@@ -303,7 +307,8 @@ module _ (laws : ExpressionLaws) where
       from (Explain s) = inr (inr (inr (inr (inr (inr (inr s))))))
 
       to_parts : (form : Cases) → statement_parts (to form) ≡ cases_parts form
-      to_parts (inl s) = refl
+      to_parts (inl (s, false)) = ap (λ l. word_part KSelect ∷ l) (sym (append-nil (select_parts s)))
+      to_parts (inl (s, true)) = refl
       to_parts (inr (inl s)) = refl
       to_parts (inr (inr (inl s))) = refl
       to_parts (inr (inr (inr (inl s)))) = refl
@@ -314,7 +319,8 @@ module _ (laws : ExpressionLaws) where
       to_parts (inr (inr (inr (inr (inr (inr (inr s))))))) = refl
 
       to_value : (form : Cases) → statement_of (to form) ≡ cases_value form
-      to_value (inl s) = refl
+      to_value (inl (s, false)) = refl
+      to_value (inl (s, true)) = refl
       to_value (inr (inl s)) = refl
       to_value (inr (inr (inl s))) = refl
       to_value (inr (inr (inr (inl s)))) = refl
@@ -325,7 +331,8 @@ module _ (laws : ExpressionLaws) where
       to_value (inr (inr (inr (inr (inr (inr (inr s))))))) = refl
 
       from_parts : (form : StatementForm) → cases_parts (from form) ≡ statement_parts form
-      from_parts (Select s) = refl
+      from_parts (Select s) = ap (λ l. word_part KSelect ∷ l) (append-nil (select_parts s))
+      from_parts (SelectForUpdate s) = refl
       from_parts (Insert s) = refl
       from_parts (Update s) = refl
       from_parts (Delete s) = refl
@@ -337,6 +344,7 @@ module _ (laws : ExpressionLaws) where
 
       from_value : (form : StatementForm) → cases_value (from form) ≡ statement_of form
       from_value (Select s) = refl
+      from_value (SelectForUpdate s) = refl
       from_value (Insert s) = refl
       from_value (Update s) = refl
       from_value (Delete s) = refl

@@ -7,15 +7,15 @@ use Rattle.sql_lex.specs.declared.keyword.Keyword.TheVariants.{KSelect, KInto, K
 use Rattle.sql_lex.specs.declared.symbol.Symbol.TheVariants.{Comma, Open, Close, Equal}
 use Rattle.sql_lex.specs.declared.token.TokenKind.TheVariants as kind
 use Rattle.sql_parse.specs.Trees.{Outside, Mark, mark, marks, kinds}
-use Rattle.sql_parse.specs.Forms.{word, sign, name_marks, number_marks, column_marks, maybe, several_marks, alias_marks, table_marks, value_marks, item_marks, items_marks, join_marks, filter_marks, direction_marks, ordered_marks, query_marks, row_marks, InsertForm, insert_marks, set_marks, UpdateForm, update_marks, DeleteForm, delete_marks, statement_marks}
+use Rattle.sql_parse.specs.Forms.{word, sign, name_marks, number_marks, column_marks, maybe, several_marks, alias_marks, table_marks, value_marks, item_marks, items_marks, join_marks, filter_marks, direction_marks, ordered_marks, query_marks, for_update_marks, row_marks, InsertForm, insert_marks, set_marks, UpdateForm, update_marks, DeleteForm, delete_marks, statement_marks}
 use Rattle.sql_parse.specs.Forms.ValueForm.{Plain, CountAll, Count, Sum, Min, Max}
 use Rattle.sql_parse.specs.Forms.ItemsForm.{Star, Listed}
-use Rattle.sql_parse.specs.Forms.StatementForm.{Select, Insert, Update, Delete, Begin, BeginAsOf, Commit, Rollback, Explain}
+use Rattle.sql_parse.specs.Forms.StatementForm.{Select, SelectForUpdate, Insert, Update, Delete, Begin, BeginAsOf, Commit, Rollback, Explain}
 use Rattle.sql_parse.proofs.ReaderParts.{Part, Word, Phrase, before, parts_marks}
 use Rattle.sql_parse.proofs.ReaderChoices.{behind, maybe_parts}
 use Rattle.sql_parse.proofs.ReaderLists.{list_parts, several_parts}
 use Rattle.sql_parse.proofs.ReaderExpressions.{phrase_parts}
-use Rattle.sql_parse.proofs.StatementParts.{word_part, sign_part, name_parts, qualified_parts, column_parts, alias_parts, table_parts, bracket_parts, value_parts, item_parts, items_parts, joined_parts, join_parts, filter_parts, by_parts, clause_parts, direction_parts, ordered_parts, limit_parts, select_parts, row_parts, columns_parts, insert_parts, set_parts, update_parts, delete_parts, statement_parts}
+use Rattle.sql_parse.proofs.StatementParts.{word_part, sign_part, name_parts, qualified_parts, column_parts, alias_parts, table_parts, bracket_parts, value_parts, item_parts, items_parts, joined_parts, join_parts, filter_parts, by_parts, clause_parts, direction_parts, ordered_parts, limit_parts, select_parts, for_update_parts, row_parts, columns_parts, insert_parts, set_parts, update_parts, delete_parts, statement_parts}
 
 -- ---- parts
 
@@ -181,6 +181,8 @@ delete_shows delete =
 
 pub statement_shows : Shows statement_parts statement_marks
 statement_shows (Select select) = ap (λ l. mark Outside (kind.Keyword KSelect) ∷ l) (query_shows select)
+statement_shows (SelectForUpdate select) =
+    ap (λ l. mark Outside (kind.Keyword KSelect) ∷ l) (behind_append (select_parts select) (for_update_parts true) (query_marks select) for_update_marks (query_shows select) refl)
 statement_shows (Insert insert) = insert_shows insert
 statement_shows (Update update) = update_shows update
 statement_shows (Delete delete) = delete_shows delete

@@ -3,7 +3,7 @@ use Rattle.std.proofs.Common.{ℕ, pos, List, [], ◌∷◌, ◌++◌, Bool, tru
 use Rattle.sql_ast.specs.declared.ast.ColRef.{ColRef}
 use Rattle.sql_ast.specs.declared.select.TableRef.{TableRef}
 use Rattle.sql_lex.specs.declared.keyword.Keyword.{Keyword}
-use Rattle.sql_lex.specs.declared.keyword.Keyword.TheVariants.{KSelect, KInsert, KInto, KValues, KUpdate, KSet, KDelete, KFrom, KWhere, KJoin, KOn, KGroup, KBy, KOrder, KAsc, KDesc, KLimit, KAs, KBegin, KOf, KEpoch, KCommit, KRollback, KExplain, KCount, KSum, KMin, KMax}
+use Rattle.sql_lex.specs.declared.keyword.Keyword.TheVariants.{KSelect, KInsert, KInto, KValues, KUpdate, KSet, KDelete, KFrom, KWhere, KJoin, KOn, KGroup, KBy, KOrder, KAsc, KDesc, KLimit, KAs, KBegin, KOf, KEpoch, KCommit, KRollback, KExplain, KCount, KSum, KMin, KMax, KFor}
 use Rattle.sql_lex.specs.declared.symbol.Symbol.{Symbol}
 use Rattle.sql_lex.specs.declared.symbol.Symbol.TheVariants.{Open, Close, Dot, Equal}
 use Rattle.sql_lex.specs.declared.symbol.Symbol.TheVariants as star
@@ -12,7 +12,7 @@ use Rattle.sql_parse.specs.Trees.{Tree}
 use Rattle.sql_parse.specs.Forms.{Several, ValueForm, ItemForm, ItemsForm, JoinForm, OrderForm, SelectForm, RowForm, InsertForm, SetForm, UpdateForm, DeleteForm, StatementForm}
 use Rattle.sql_parse.specs.Forms.ValueForm.{Plain, CountAll, Count, Sum, Min, Max}
 use Rattle.sql_parse.specs.Forms.ItemsForm.{Star, Listed}
-use Rattle.sql_parse.specs.Forms.StatementForm.{Select, Insert, Update, Delete, Begin, BeginAsOf, Commit, Rollback, Explain}
+use Rattle.sql_parse.specs.Forms.StatementForm.{Select, SelectForUpdate, Insert, Update, Delete, Begin, BeginAsOf, Commit, Rollback, Explain}
 use Rattle.sql_parse.proofs.ReaderParts.{Part, Word}
 use Rattle.sql_parse.proofs.ReaderChoices.{behind, maybe_parts}
 use Rattle.sql_parse.proofs.ReaderLists.{several_parts}
@@ -119,8 +119,14 @@ delete_parts delete = (word_part KFrom ∷ name_parts delete.table) ++ filter_pa
 abbrev pub as_of_parts : ℕ → List Part
 as_of_parts epoch = word_part KAs ∷ word_part KOf ∷ word_part KEpoch ∷ number_parts epoch
 
+-- whether FOR UPDATE stands behind a query
+abbrev pub for_update_parts : Bool → List Part
+for_update_parts false = []
+for_update_parts true = word_part KFor ∷ word_part KUpdate ∷ []
+
 abbrev pub statement_parts : StatementForm → List Part
 statement_parts (Select select) = word_part KSelect ∷ select_parts select
+statement_parts (SelectForUpdate select) = word_part KSelect ∷ (select_parts select ++ for_update_parts true)
 statement_parts (Insert insert) = word_part KInsert ∷ insert_parts insert
 statement_parts (Update update) = word_part KUpdate ∷ update_parts update
 statement_parts (Delete delete) = word_part KDelete ∷ delete_parts delete

@@ -9,12 +9,12 @@ use Rattle.sql_parse.specs.Trees.{Tree}
 use Rattle.sql_parse.specs.Forms.{Several, listed, ValueForm, IsValue, ItemForm, IsItem, ItemsForm, AreItems, JoinForm, IsJoin, IfThere, OrderForm, SelectForm, IsSelect, RowForm, IsRow, InsertForm, IsSet, UpdateForm, StatementForm, Each}
 use Rattle.sql_parse.specs.Forms.ValueForm.{Plain, CountAll, Count, Sum, Min, Max}
 use Rattle.sql_parse.specs.Forms.ItemsForm.{Star, Listed}
-use Rattle.sql_parse.specs.Forms.StatementForm.{Select, Insert, Update, Delete, Begin, BeginAsOf, Commit, Rollback, Explain}
+use Rattle.sql_parse.specs.Forms.StatementForm.{Select, SelectForUpdate, Insert, Update, Delete, Begin, BeginAsOf, Commit, Rollback, Explain}
 use Rattle.sql_parse.proofs.ReaderParts.{Part, Every, every_append, every_left, every_right}
 use Rattle.sql_parse.proofs.ReaderChoices.{maybe_parts}
 use Rattle.sql_parse.proofs.ReaderLists.{list_parts, several_parts}
 use Rattle.sql_parse.proofs.ReaderExpressions.{phrase_parts}
-use Rattle.sql_parse.proofs.StatementParts.{word_part, sign_part, name_parts, qualified_parts, column_parts, alias_parts, table_parts, value_parts, item_parts, items_parts, join_parts, filter_parts, by_parts, clause_parts, direction_parts, ordered_parts, limit_parts, select_parts, row_parts, columns_parts, insert_parts, set_parts, update_parts, statement_parts}
+use Rattle.sql_parse.proofs.StatementParts.{word_part, sign_part, name_parts, qualified_parts, column_parts, alias_parts, table_parts, value_parts, item_parts, items_parts, join_parts, filter_parts, by_parts, clause_parts, direction_parts, ordered_parts, limit_parts, select_parts, for_update_parts, row_parts, columns_parts, insert_parts, set_parts, update_parts, statement_parts}
 
 module _ (P : Tree → Type 0) where
   -- ---- lists and options
@@ -121,6 +121,7 @@ module _ (P : Tree → Type 0) where
 
   pub each_every : (form : StatementForm) → Each P form → Every P (statement_parts form)
   each_every (Select select) each = select_every select each
+  each_every (SelectForUpdate select) each = every_append P (select_parts select) (for_update_parts true) (select_every select each) tt
   each_every (Insert insert) each = insert_every insert each
   each_every (Update update) each = update_every update each
   each_every (Delete delete) each = filter_every delete.filter each
@@ -179,6 +180,7 @@ module _ (P : Tree → Type 0) where
 
   pub every_each : (form : StatementForm) → Every P (statement_parts form) → Each P form
   every_each (Select select) every = select_each select every
+  every_each (SelectForUpdate select) every = select_each select (every_left P (select_parts select) (for_update_parts true) every)
   every_each (Insert insert) every =
       several_all (IsRow P) row_parts row_each insert.rows (every_right P (columns_parts insert.columns) (word_part KValues ∷ several_parts row_parts insert.rows) every)
   every_each (Update update) every = (

@@ -20,7 +20,7 @@ use Rattle.sql_ast.specs.declared.statement.Statement.TheVariants as of_statemen
 use Rattle.sql_ast.specs.declared.update.AstSet.{AstSet}
 use Rattle.sql_ast.specs.declared.update.UpdateStmt.{UpdateStmt}
 use Rattle.sql_lex.specs.declared.keyword.Keyword.{Keyword}
-use Rattle.sql_lex.specs.declared.keyword.Keyword.TheVariants.{KSelect, KInsert, KInto, KValues, KUpdate, KSet, KDelete, KFrom, KWhere, KJoin, KOn, KGroup, KBy, KOrder, KAsc, KDesc, KLimit, KAs, KBegin, KOf, KEpoch, KCommit, KRollback, KExplain, KCount, KSum, KMin, KMax}
+use Rattle.sql_lex.specs.declared.keyword.Keyword.TheVariants.{KSelect, KInsert, KInto, KValues, KUpdate, KSet, KDelete, KFrom, KWhere, KJoin, KOn, KGroup, KBy, KOrder, KAsc, KDesc, KLimit, KAs, KBegin, KOf, KEpoch, KCommit, KRollback, KExplain, KCount, KSum, KMin, KMax, KFor}
 use Rattle.sql_lex.specs.declared.symbol.Symbol.{Symbol}
 use Rattle.sql_lex.specs.declared.symbol.Symbol.TheVariants.{Open, Close, Comma, Equal}
 use Rattle.sql_lex.specs.declared.symbol.Symbol.TheVariants as star
@@ -273,8 +273,13 @@ delete_of delete = record { table = delete.table; filter = option_map value dele
 
 -- ---- all statements
 
+-- FOR UPDATE, which may stand behind a query that is not explained
+abbrev pub for_update_marks : List Mark
+for_update_marks = word KFor ++ word KUpdate
+
 pub data StatementForm : Type 0 where
   Select : SelectForm → StatementForm
+  SelectForUpdate : SelectForm → StatementForm
   Insert : InsertForm → StatementForm
   Update : UpdateForm → StatementForm
   Delete : DeleteForm → StatementForm
@@ -287,6 +292,7 @@ pub data StatementForm : Type 0 where
 -- its tokens
 abbrev pub statement_marks : StatementForm → List Mark
 statement_marks (Select select) = word KSelect ++ query_marks select
+statement_marks (SelectForUpdate select) = word KSelect ++ query_marks select ++ for_update_marks
 statement_marks (Insert insert) = insert_marks insert
 statement_marks (Update update) = update_marks update
 statement_marks (Delete delete) = delete_marks delete
@@ -299,6 +305,7 @@ statement_marks (Explain select) = word KExplain ++ word KSelect ++ query_marks 
 -- the statement that it is
 abbrev pub statement_of : StatementForm → Statement
 statement_of (Select select) = of_statement.Select (select_of select)
+statement_of (SelectForUpdate select) = of_statement.SelectForUpdate (select_of select)
 statement_of (Insert insert) = of_statement.Insert (insert_of insert)
 statement_of (Update update) = of_statement.Update (update_of update)
 statement_of (Delete delete) = of_statement.Delete (delete_of delete)
@@ -311,6 +318,7 @@ statement_of (Explain select) = of_statement.Explain (select_of select)
 -- each of its expressions is such
 abbrev pub Each : (Tree → Type 0) → StatementForm → Type 0
 Each P (Select select) = IsSelect P select
+Each P (SelectForUpdate select) = IsSelect P select
 Each P (Insert insert) = All (IsRow P) (listed insert.rows)
 Each P (Update update) = All (IsSet P) (listed update.sets) × IfThere P update.filter
 Each P (Delete delete) = IfThere P delete.filter

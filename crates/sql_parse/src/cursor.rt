@@ -6,7 +6,7 @@ ghost use Rattle.sql_parse.specs.Grammar.{begins_integer};
 ghost use Rattle.sql_parse.specs.inner.Kinds.{is_keyword, is_symbol};
 ghost use Rattle.sql_parse.specs.Places.{kinds_of};
 ghost use Rattle.sql_parse.specs.inner.Reading as spec;
-ghost use Rattle.sql_parse.specs.inner.Reading.{Reads};
+ghost use Rattle.sql_parse.specs.inner.Reading.{Parses};
 
 use crate::kinds::{integer_of, is_keyword, is_symbol};
 use crate::stop::Stop;
@@ -106,7 +106,7 @@ impl<'a> Cursor<'a> {
     /// Reads the keyword.
     #[tactic(auto, unfolding(crate::specs::inner::Reading::keyword))]
     pub(crate) fn expect_keyword(&mut self, keyword: Keyword) -> Result<(), Stop>
-        ensures { Reads (spec.keyword keyword self.old) result self.new }
+        ensures { Parses (spec.keyword keyword self.old) result self.new }
     {
         if !self.sees_keyword(keyword) {
             return Err(self.refuse());
@@ -118,7 +118,7 @@ impl<'a> Cursor<'a> {
     /// Reads the symbol.
     #[tactic(auto, unfolding(crate::specs::inner::Reading::symbol))]
     pub(crate) fn expect_symbol(&mut self, symbol: Symbol) -> Result<(), Stop>
-        ensures { Reads (spec.symbol symbol self.old) result self.new }
+        ensures { Parses (spec.symbol symbol self.old) result self.new }
     {
         if !self.sees_symbol(symbol) {
             return Err(self.refuse());

@@ -2,7 +2,7 @@
 
 ghost use Rattle.sql_parse.specs.inner.Expressions.{run};
 ghost use Rattle.sql_parse.specs.inner.Reading as spec;
-ghost use Rattle.sql_parse.specs.inner.Reading.{Reads};
+ghost use Rattle.sql_parse.specs.inner.Reading.{Parses};
 
 mod behind;
 mod frame;
@@ -21,7 +21,7 @@ use step::{finished, step};
 
 // Reads the longest expression that the tokens go on with, in one pass over them.
 fn read_on(alloc: Global, reader: &mut Reader, cursor: &mut Cursor<'_>) -> Result<Ast, Stop>
-    ensures { Reads (run reader.old cursor.old) result cursor.new }
+    ensures { Parses (run reader.old cursor.old) result cursor.new }
 {
     while let Some((token, before_integer)) = cursor.ahead() {
         match step(alloc, reader, token, before_integer)? {
@@ -40,7 +40,7 @@ fn read_on(alloc: Global, reader: &mut Reader, cursor: &mut Cursor<'_>) -> Resul
 /// Reads the longest expression.
 #[tactic(auto, unfolding(crate::specs::inner::Reading::expression))]
 pub(crate) fn read_expression(alloc: Global, cursor: &mut Cursor<'_>) -> Result<Ast, Stop>
-    ensures { Reads (spec.expression cursor.old) result cursor.new }
+    ensures { Parses (spec.expression cursor.old) result cursor.new }
 {
     let mut reader = Reader::new(alloc);
     let read = read_on(alloc, &mut reader, cursor);

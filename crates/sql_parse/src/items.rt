@@ -1,7 +1,7 @@
 //! What a query answers.
 
 ghost use Rattle.sql_parse.specs.inner.Reading as spec;
-ghost use Rattle.sql_parse.specs.inner.Reading.{Reads};
+ghost use Rattle.sql_parse.specs.inner.Reading.{Parses};
 
 use crate::cursor::Cursor;
 use crate::expression::read_expression;
@@ -15,7 +15,7 @@ use std::alloc::Global;
 // The argument of an aggregate.
 #[tactic(auto, unfolding(crate::specs::inner::Reading::argument))]
 fn read_argument(alloc: Global, cursor: &mut Cursor<'_>) -> Result<Ast, Stop>
-    ensures { Reads (spec.argument cursor.old) result cursor.new }
+    ensures { Parses (spec.argument cursor.old) result cursor.new }
 {
     cursor.expect_symbol(Symbol::Open)?;
     let argument = read_expression(alloc, cursor)?;
@@ -24,7 +24,7 @@ fn read_argument(alloc: Global, cursor: &mut Cursor<'_>) -> Result<Ast, Stop>
 
 // What stands behind the opening parenthesis of COUNT.
 fn read_counted(alloc: Global, cursor: &mut Cursor<'_>) -> Result<AstValue, Stop>
-    ensures { Reads (spec.counted cursor.old) result cursor.new }
+    ensures { Parses (spec.counted cursor.old) result cursor.new }
 {
     if cursor.eat_symbol(Symbol::Star) {
         cursor.expect_symbol(Symbol::Close)?;
@@ -37,7 +37,7 @@ fn read_counted(alloc: Global, cursor: &mut Cursor<'_>) -> Result<AstValue, Stop
 // What stands behind COUNT.
 #[tactic(auto, unfolding(crate::specs::inner::Reading::count))]
 fn read_count(alloc: Global, cursor: &mut Cursor<'_>) -> Result<AstValue, Stop>
-    ensures { Reads (spec.count cursor.old) result cursor.new }
+    ensures { Parses (spec.count cursor.old) result cursor.new }
 {
     cursor.expect_symbol(Symbol::Open)?;
     read_counted(alloc, cursor)
@@ -45,7 +45,7 @@ fn read_count(alloc: Global, cursor: &mut Cursor<'_>) -> Result<AstValue, Stop>
 
 #[tactic(auto, unfolding(crate::specs::inner::Reading::item_value, crate::specs::inner::Reading::keyword))]
 fn read_item_value(alloc: Global, cursor: &mut Cursor<'_>) -> Result<AstValue, Stop>
-    ensures { Reads (spec.item_value cursor.old) result cursor.new }
+    ensures { Parses (spec.item_value cursor.old) result cursor.new }
 {
     if cursor.sees_keyword(Keyword::KCount) {
         cursor.skip();
@@ -68,7 +68,7 @@ fn read_item_value(alloc: Global, cursor: &mut Cursor<'_>) -> Result<AstValue, S
 
 #[tactic(auto, unfolding(crate::specs::inner::Reading::item))]
 fn read_item(alloc: Global, cursor: &mut Cursor<'_>) -> Result<AstItem, Stop>
-    ensures { Reads (spec.item cursor.old) result cursor.new }
+    ensures { Parses (spec.item cursor.old) result cursor.new }
 {
     let value = read_item_value(alloc, cursor)?;
     let (value, alias) = beside(value, read_alias(alloc, cursor))?;
@@ -86,7 +86,7 @@ impl Part for AstItem {
 /// Reads what a query answers.
 #[tactic(auto, unfolding(crate::specs::inner::Reading::items))]
 pub(crate) fn read_items(alloc: Global, cursor: &mut Cursor<'_>) -> Result<Items, Stop>
-    ensures { Reads (spec.items cursor.old) result cursor.new }
+    ensures { Parses (spec.items cursor.old) result cursor.new }
 {
     if cursor.eat_symbol(Symbol::Star) {
         return Ok(Items::All);

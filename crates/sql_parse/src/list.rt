@@ -2,7 +2,7 @@
 
 ghost use Rattle.std.specs.Prelude.{◌≡◌, Ok, Err, MatchResult};
 ghost use Rattle.sql_parse.specs.inner.Reading as spec;
-ghost use Rattle.sql_parse.specs.inner.Reading.{Reads};
+ghost use Rattle.sql_parse.specs.inner.Reading.{Parses};
 
 use crate::cursor::Cursor;
 use crate::stop::Stop;
@@ -15,7 +15,7 @@ pub(crate) trait Part: Drop {
     ghost use Rattle.std.specs.Prelude.{List, Result};
     ghost use Rattle.sql_lex.specs.declared.token.TokenKind.{TokenKind};
     ghost use Rattle.sql_parse.specs.declared.stop.Stop.{Stop};
-    ghost use Rattle.sql_parse.specs.inner.Reading.{Reads};
+    ghost use Rattle.sql_parse.specs.inner.Reading.{Parses};
 
     ghost reader: { List TokenKind → Result (Self × List TokenKind) Stop };
 
@@ -23,7 +23,7 @@ pub(crate) trait Part: Drop {
     fn read(alloc: Global, cursor: &mut Cursor<'_>) -> Result<Self, Stop>
     where
         Self: Sized,
-        ensures { Reads (reader cursor.old) result cursor.new };
+        ensures { Parses (reader cursor.old) result cursor.new };
 }
 
 /// The part that the keyword introduces, if that comes next.
@@ -32,7 +32,7 @@ pub(crate) fn read_after<T: Part>(
     cursor: &mut Cursor<'_>,
     keyword: Keyword,
 ) -> Result<Option<T>, Stop>
-    ensures { Reads (spec.after keyword T.reader cursor.old) result cursor.new }
+    ensures { Parses (spec.after keyword T.reader cursor.old) result cursor.new }
 {
     if !cursor.eat_keyword(keyword) {
         return Ok(None);
@@ -42,7 +42,7 @@ pub(crate) fn read_after<T: Part>(
 
 /// The value, where the parenthesis closes behind it.
 pub(crate) fn read_closed<T: Drop>(cursor: &mut Cursor<'_>, value: T) -> Result<T, Stop>
-    ensures { Reads (spec.and_then (spec.symbol Symbol.Close cursor.old) (λ _. spec.pure value)) result cursor.new }
+    ensures { Parses (spec.and_then (spec.symbol Symbol.Close cursor.old) (λ _. spec.pure value)) result cursor.new }
 {
     cursor.expect_symbol(Symbol::Close)?;
     Ok(value)
@@ -60,7 +60,7 @@ pub(crate) fn read_separated<T: Part>(
     alloc: Global,
     cursor: &mut Cursor<'_>,
 ) -> Result<Many<T>, Stop>
-    ensures { Reads (spec.separated T.reader cursor.old) result cursor.new }
+    ensures { Parses (spec.separated T.reader cursor.old) result cursor.new }
 {
     let mut parts = Vec::new(alloc);
     parts.push(T::read(alloc, cursor)?)?;
@@ -79,7 +79,7 @@ pub(crate) fn read_clause<T: Part>(
     cursor: &mut Cursor<'_>,
     keyword: Keyword,
 ) -> Result<Many<T>, Stop>
-    ensures { Reads (spec.clause keyword T.reader cursor.old) result cursor.new }
+    ensures { Parses (spec.clause keyword T.reader cursor.old) result cursor.new }
 {
     if !cursor.eat_keyword(keyword) {
         return Ok(Many::new(Vec::new(alloc)));

@@ -1,7 +1,7 @@
 //! Names, columns and tables.
 
 ghost use Rattle.sql_parse.specs.inner.Reading as spec;
-ghost use Rattle.sql_parse.specs.inner.Reading.{Reads};
+ghost use Rattle.sql_parse.specs.inner.Reading.{Parses};
 
 use crate::cursor::Cursor;
 use crate::expression::read_expression;
@@ -16,7 +16,7 @@ use std::alloc::Global;
 /// Reads a name.
 #[tactic(auto, unfolding(crate::specs::inner::Reading::name))]
 pub(crate) fn read_name(alloc: Global, cursor: &mut Cursor<'_>) -> Result<Txt, Stop>
-    ensures { Reads (spec.name cursor.old) result cursor.new }
+    ensures { Parses (spec.name cursor.old) result cursor.new }
 {
     match cursor.peek() {
         Some(TokenKind::Name(text)) => {
@@ -31,7 +31,7 @@ pub(crate) fn read_name(alloc: Global, cursor: &mut Cursor<'_>) -> Result<Txt, S
 /// Reads an integer.
 #[tactic(auto, unfolding(crate::specs::inner::Reading::number))]
 pub(crate) fn read_number(cursor: &mut Cursor<'_>) -> Result<u64, Stop>
-    ensures { Reads (spec.number cursor.old) result cursor.new }
+    ensures { Parses (spec.number cursor.old) result cursor.new }
 {
     let Some(token) = cursor.peek() else {
         return Err(cursor.refuse());
@@ -47,7 +47,7 @@ pub(crate) fn read_number(cursor: &mut Cursor<'_>) -> Result<u64, Stop>
 
 // The rest of the column that the name begins.
 fn read_qualified(alloc: Global, cursor: &mut Cursor<'_>, first: Txt) -> Result<ColRef, Stop>
-    ensures { Reads (spec.qualified first cursor.old) result cursor.new }
+    ensures { Parses (spec.qualified first cursor.old) result cursor.new }
 {
     if !cursor.eat_symbol(Symbol::Dot) {
         return Ok(ColRef {
@@ -65,7 +65,7 @@ fn read_qualified(alloc: Global, cursor: &mut Cursor<'_>, first: Txt) -> Result<
 /// Reads a column.
 #[tactic(auto, unfolding(crate::specs::inner::Reading::column))]
 pub(crate) fn read_column(alloc: Global, cursor: &mut Cursor<'_>) -> Result<ColRef, Stop>
-    ensures { Reads (spec.column cursor.old) result cursor.new }
+    ensures { Parses (spec.column cursor.old) result cursor.new }
 {
     let first = read_name(alloc, cursor)?;
     read_qualified(alloc, cursor, first)
@@ -74,7 +74,7 @@ pub(crate) fn read_column(alloc: Global, cursor: &mut Cursor<'_>) -> Result<ColR
 /// Reads the name behind AS, if that comes next.
 #[tactic(auto, unfolding(crate::specs::inner::Reading::alias))]
 pub(crate) fn read_alias(alloc: Global, cursor: &mut Cursor<'_>) -> Result<Option<Txt>, Stop>
-    ensures { Reads (spec.alias cursor.old) result cursor.new }
+    ensures { Parses (spec.alias cursor.old) result cursor.new }
 {
     read_after(alloc, cursor, Keyword::KAs)
 }
@@ -82,7 +82,7 @@ pub(crate) fn read_alias(alloc: Global, cursor: &mut Cursor<'_>) -> Result<Optio
 /// Reads a table with its name behind AS.
 #[tactic(auto, unfolding(crate::specs::inner::Reading::table))]
 pub(crate) fn read_table(alloc: Global, cursor: &mut Cursor<'_>) -> Result<TableRef, Stop>
-    ensures { Reads (spec.table cursor.old) result cursor.new }
+    ensures { Parses (spec.table cursor.old) result cursor.new }
 {
     let name = read_name(alloc, cursor)?;
     let alias = read_alias(alloc, cursor)?;

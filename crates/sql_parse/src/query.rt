@@ -2,7 +2,7 @@
 
 ghost use Rattle.std.specs.Prelude.{◌≡◌, Ok};
 ghost use Rattle.sql_parse.specs.inner.Reading as spec;
-ghost use Rattle.sql_parse.specs.inner.Reading.{Reads};
+ghost use Rattle.sql_parse.specs.inner.Reading.{Parses};
 
 use crate::cursor::Cursor;
 use crate::expression::read_expression;
@@ -18,7 +18,7 @@ use std::alloc::Global;
 // The table behind JOIN, and the condition of ON.
 #[tactic(auto, unfolding(crate::specs::inner::Reading::joined))]
 fn read_joined(alloc: Global, cursor: &mut Cursor<'_>) -> Result<JoinRef, Stop>
-    ensures { Reads (spec.joined cursor.old) result cursor.new }
+    ensures { Parses (spec.joined cursor.old) result cursor.new }
 {
     let table = read_table(alloc, cursor)?;
     cursor.expect_keyword(Keyword::KOn)?;
@@ -36,7 +36,7 @@ impl Part for JoinRef {
 
 #[tactic(auto, unfolding(crate::specs::inner::Reading::join))]
 fn read_join(alloc: Global, cursor: &mut Cursor<'_>) -> Result<Option<JoinRef>, Stop>
-    ensures { Reads (spec.join cursor.old) result cursor.new }
+    ensures { Parses (spec.join cursor.old) result cursor.new }
 {
     read_after(alloc, cursor, Keyword::KJoin)
 }
@@ -44,7 +44,7 @@ fn read_join(alloc: Global, cursor: &mut Cursor<'_>) -> Result<Option<JoinRef>, 
 /// Reads the condition behind WHERE, if that comes next.
 #[tactic(auto, unfolding(crate::specs::inner::Reading::filter))]
 pub(crate) fn read_filter(alloc: Global, cursor: &mut Cursor<'_>) -> Result<Option<Ast>, Stop>
-    ensures { Reads (spec.filter cursor.old) result cursor.new }
+    ensures { Parses (spec.filter cursor.old) result cursor.new }
 {
     read_after(alloc, cursor, Keyword::KWhere)
 }
@@ -63,7 +63,7 @@ fn read_descending(cursor: &mut Cursor<'_>) -> bool
 
 #[tactic(auto, unfolding(crate::specs::inner::Reading::ordered))]
 fn read_ordered(alloc: Global, cursor: &mut Cursor<'_>) -> Result<OrderRef, Stop>
-    ensures { Reads (spec.ordered cursor.old) result cursor.new }
+    ensures { Parses (spec.ordered cursor.old) result cursor.new }
 {
     let column = read_column(alloc, cursor)?;
     let descending = read_descending(cursor);
@@ -80,21 +80,21 @@ impl Part for OrderRef {
 
 #[tactic(auto, unfolding(crate::specs::inner::Reading::group))]
 fn read_group(alloc: Global, cursor: &mut Cursor<'_>) -> Result<Many<ColRef>, Stop>
-    ensures { Reads (spec.group cursor.old) result cursor.new }
+    ensures { Parses (spec.group cursor.old) result cursor.new }
 {
     read_clause(alloc, cursor, Keyword::KGroup)
 }
 
 #[tactic(auto, unfolding(crate::specs::inner::Reading::order))]
 fn read_order(alloc: Global, cursor: &mut Cursor<'_>) -> Result<Many<OrderRef>, Stop>
-    ensures { Reads (spec.order cursor.old) result cursor.new }
+    ensures { Parses (spec.order cursor.old) result cursor.new }
 {
     read_clause(alloc, cursor, Keyword::KOrder)
 }
 
 #[tactic(auto, unfolding(crate::specs::inner::Reading::limit))]
 fn read_limit(cursor: &mut Cursor<'_>) -> Result<Option<u64>, Stop>
-    ensures { Reads (spec.limit cursor.old) result cursor.new }
+    ensures { Parses (spec.limit cursor.old) result cursor.new }
 {
     if !cursor.eat_keyword(Keyword::KLimit) {
         return Ok(None);
@@ -105,7 +105,7 @@ fn read_limit(cursor: &mut Cursor<'_>) -> Result<Option<u64>, Stop>
 /// Reads what stands behind the word SELECT.
 #[tactic(auto, unfolding(crate::specs::inner::Reading::select))]
 pub(crate) fn read_select(alloc: Global, cursor: &mut Cursor<'_>) -> Result<SelectStmt, Stop>
-    ensures { Reads (spec.select cursor.old) result cursor.new }
+    ensures { Parses (spec.select cursor.old) result cursor.new }
 {
     let items = read_items(alloc, cursor)?;
     cursor.expect_keyword(Keyword::KFrom)?;

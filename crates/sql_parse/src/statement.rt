@@ -5,21 +5,55 @@ ghost use Rattle.geo_base.specs.Results.{Gives};
 ghost use Rattle.sql_lex.specs.declared.token.TokenKind.{TokenKind};
 ghost use Rattle.sql_parse.specs.Places.{kinds_of};
 ghost use Rattle.sql_parse.specs.inner.Reading as spec;
-ghost use Rattle.sql_parse.specs.inner.Reading.{Reads};
+ghost use Rattle.sql_parse.specs.inner.Reading.{Parses};
 
 use crate::cursor::Cursor;
+use crate::list::beside;
 use crate::names::read_number;
 use crate::query::read_select;
 use crate::stop::Stop;
 use crate::writes::{read_delete, read_insert, read_update};
-use sql_ast::Statement;
+use sql_ast::{SelectStmt, Statement};
 use sql_lex::{Keyword, Token, TokenKind};
 use std::alloc::Global;
+
+// Whether FOR UPDATE comes next.
+#[tactic(auto, unfolding(crate::specs::inner::Reading::for_update))]
+fn read_for_update(cursor: &mut Cursor<'_>) -> Result<bool, Stop>
+    ensures { Parses (spec.for_update cursor.old) result cursor.new }
+{
+    if !cursor.eat_keyword(Keyword::KFor) {
+        return Ok(false);
+    }
+    cursor.expect_keyword(Keyword::KUpdate)?;
+    Ok(true)
+}
+
+// The statement that the query is, with FOR UPDATE behind it or without.
+fn query_statement(select: SelectStmt, for_update: bool) -> Statement
+    ensures { result ≡ spec.query_statement select for_update }
+{
+    if for_update {
+        Statement::SelectForUpdate(select)
+    } else {
+        Statement::Select(select)
+    }
+}
+
+// What stands behind the word SELECT that begins a statement.
+#[tactic(auto, unfolding(crate::specs::inner::Reading::query))]
+fn read_query(alloc: Global, cursor: &mut Cursor<'_>) -> Result<Statement, Stop>
+    ensures { Parses (spec.query cursor.old) result cursor.new }
+{
+    let select = read_select(alloc, cursor)?;
+    let (select, for_update) = beside(select, read_for_update(cursor))?;
+    Ok(query_statement(select, for_update))
+}
 
 // What stands behind the word BEGIN.
 #[tactic(auto, unfolding(crate::specs::inner::Reading::begin))]
 fn read_begin(cursor: &mut Cursor<'_>) -> Result<Statement, Stop>
-    ensures { Reads (spec.begin cursor.old) result cursor.new }
+    ensures { Parses (spec.begin cursor.old) result cursor.new }
 {
     if !cursor.eat_keyword(Keyword::KAs) {
         return Ok(Statement::Begin);
@@ -46,12 +80,12 @@ fn read_by_keyword(
     keyword: Keyword,
 ) -> Result<Statement, Stop>
     requires { (more : List TokenKind) × (cursor.old ≡ TokenKind.Keyword keyword ∷ more) }
-    ensures { Reads (spec.statement_by (TokenKind.Keyword keyword) cursor.old) result cursor.new }
+    ensures { Parses (spec.statement_by (TokenKind.Keyword keyword) cursor.old) result cursor.new }
 {
     match keyword {
         Keyword::KSelect => {
             cursor.skip();
-            Ok(Statement::Select(read_select(alloc, cursor)?))
+            read_query(alloc, cursor)
         }
         Keyword::KInsert => {
             cursor.skip();
@@ -83,7 +117,7 @@ fn read_by_keyword(
 // Reads a statement.
 #[tactic(auto, unfolding(crate::specs::inner::Reading::statement))]
 fn read_statement(alloc: Global, cursor: &mut Cursor<'_>) -> Result<Statement, Stop>
-    ensures { Reads (spec.statement cursor.old) result cursor.new }
+    ensures { Parses (spec.statement cursor.old) result cursor.new }
 {
     match cursor.peek() {
         Some(TokenKind::Keyword(keyword)) => read_by_keyword(alloc, cursor, *keyword),

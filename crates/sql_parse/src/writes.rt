@@ -1,7 +1,7 @@
 //! Statements that write.
 
 ghost use Rattle.sql_parse.specs.inner.Reading as spec;
-ghost use Rattle.sql_parse.specs.inner.Reading.{Reads};
+ghost use Rattle.sql_parse.specs.inner.Reading.{Parses};
 
 use crate::cursor::Cursor;
 use crate::expression::read_expression;
@@ -16,7 +16,7 @@ use std::alloc::Global;
 
 #[tactic(auto, unfolding(crate::specs::inner::Reading::row))]
 fn read_row(alloc: Global, cursor: &mut Cursor<'_>) -> Result<AstRow, Stop>
-    ensures { Reads (spec.row cursor.old) result cursor.new }
+    ensures { Parses (spec.row cursor.old) result cursor.new }
 {
     cursor.expect_symbol(Symbol::Open)?;
     let values = read_separated(alloc, cursor)?;
@@ -34,7 +34,7 @@ impl Part for AstRow {
 // The columns that are listed behind the table's name, or none.
 #[tactic(auto, unfolding(crate::specs::inner::Reading::columns))]
 fn read_columns(alloc: Global, cursor: &mut Cursor<'_>) -> Result<Many<Txt>, Stop>
-    ensures { Reads (spec.columns cursor.old) result cursor.new }
+    ensures { Parses (spec.columns cursor.old) result cursor.new }
 {
     if !cursor.eat_symbol(Symbol::Open) {
         return Ok(Many::new(Vec::new(alloc)));
@@ -46,7 +46,7 @@ fn read_columns(alloc: Global, cursor: &mut Cursor<'_>) -> Result<Many<Txt>, Sto
 /// Reads what stands behind the word INSERT.
 #[tactic(auto, unfolding(crate::specs::inner::Reading::insert))]
 pub(crate) fn read_insert(alloc: Global, cursor: &mut Cursor<'_>) -> Result<InsertStmt, Stop>
-    ensures { Reads (spec.insert cursor.old) result cursor.new }
+    ensures { Parses (spec.insert cursor.old) result cursor.new }
 {
     cursor.expect_keyword(Keyword::KInto)?;
     let table = read_name(alloc, cursor)?;
@@ -62,7 +62,7 @@ pub(crate) fn read_insert(alloc: Global, cursor: &mut Cursor<'_>) -> Result<Inse
 
 #[tactic(auto, unfolding(crate::specs::inner::Reading::set))]
 fn read_set(alloc: Global, cursor: &mut Cursor<'_>) -> Result<AstSet, Stop>
-    ensures { Reads (spec.set cursor.old) result cursor.new }
+    ensures { Parses (spec.set cursor.old) result cursor.new }
 {
     let column = read_name(alloc, cursor)?;
     cursor.expect_symbol(Symbol::Equal)?;
@@ -81,7 +81,7 @@ impl Part for AstSet {
 /// Reads what stands behind the word UPDATE.
 #[tactic(auto, unfolding(crate::specs::inner::Reading::update))]
 pub(crate) fn read_update(alloc: Global, cursor: &mut Cursor<'_>) -> Result<UpdateStmt, Stop>
-    ensures { Reads (spec.update cursor.old) result cursor.new }
+    ensures { Parses (spec.update cursor.old) result cursor.new }
 {
     let table = read_name(alloc, cursor)?;
     cursor.expect_keyword(Keyword::KSet)?;
@@ -97,7 +97,7 @@ pub(crate) fn read_update(alloc: Global, cursor: &mut Cursor<'_>) -> Result<Upda
 /// Reads what stands behind the word DELETE.
 #[tactic(auto, unfolding(crate::specs::inner::Reading::delete))]
 pub(crate) fn read_delete(alloc: Global, cursor: &mut Cursor<'_>) -> Result<DeleteStmt, Stop>
-    ensures { Reads (spec.delete cursor.old) result cursor.new }
+    ensures { Parses (spec.delete cursor.old) result cursor.new }
 {
     cursor.expect_keyword(Keyword::KFrom)?;
     let table = read_name(alloc, cursor)?;

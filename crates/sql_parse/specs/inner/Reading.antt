@@ -20,7 +20,7 @@ use Rattle.sql_ast.specs.declared.statement.Statement.TheVariants as of_statemen
 use Rattle.sql_ast.specs.declared.update.AstSet.{AstSet}
 use Rattle.sql_ast.specs.declared.update.UpdateStmt.{UpdateStmt}
 use Rattle.sql_lex.specs.declared.keyword.Keyword.{Keyword}
-use Rattle.sql_lex.specs.declared.keyword.Keyword.TheVariants.{KSelect, KInsert, KInto, KValues, KUpdate, KSet, KDelete, KFrom, KWhere, KJoin, KOn, KGroup, KBy, KOrder, KAsc, KDesc, KLimit, KAs, KBegin, KOf, KEpoch, KCommit, KRollback, KExplain, KCount, KSum, KMin, KMax}
+use Rattle.sql_lex.specs.declared.keyword.Keyword.TheVariants.{KSelect, KInsert, KInto, KValues, KUpdate, KSet, KDelete, KFrom, KWhere, KJoin, KOn, KGroup, KBy, KOrder, KAsc, KDesc, KLimit, KAs, KBegin, KOf, KEpoch, KCommit, KRollback, KExplain, KCount, KSum, KMin, KMax, KFor}
 use Rattle.sql_lex.specs.declared.symbol.Symbol.{Symbol}
 use Rattle.sql_lex.specs.declared.symbol.Symbol.TheVariants.{Open, Close, Comma, Dot, Star, Equal}
 use Rattle.sql_lex.specs.declared.token.TokenKind.{TokenKind}
@@ -223,6 +223,18 @@ delete = keyword KFrom >> name >-> (λ t. filter >-> (λ f. pure (record { table
 
 -- ---- all statements
 
+-- whether FOR UPDATE comes next
+unfoldable pub for_update : Parser Bool
+for_update tokens = if begins (is_keyword KFor) tokens then (keyword KFor >> keyword KUpdate >> pure true) tokens else Ok (false, tokens)
+
+abbrev pub query_statement : SelectStmt → Bool → Statement
+query_statement select true = of_statement.SelectForUpdate select
+query_statement select false = of_statement.Select select
+
+-- what stands behind the word SELECT that begins a statement
+unfoldable pub query : Parser Statement
+query = select >-> (λ s. query_statement s <$> for_update)
+
 -- what stands behind the word BEGIN
 unfoldable pub begin : Parser Statement
 begin tokens =
@@ -230,7 +242,7 @@ begin tokens =
     else Ok (of_statement.Begin, tokens)
 
 abbrev pub statement_by : TokenKind → Parser Statement
-statement_by (kind.Keyword KSelect) = keyword KSelect >> of_statement.Select <$> select
+statement_by (kind.Keyword KSelect) = keyword KSelect >> query
 statement_by (kind.Keyword KInsert) = keyword KInsert >> of_statement.Insert <$> insert
 statement_by (kind.Keyword KUpdate) = keyword KUpdate >> of_statement.Update <$> update
 statement_by (kind.Keyword KDelete) = keyword KDelete >> of_statement.Delete <$> delete
@@ -257,7 +269,7 @@ to_end (Err stop) = Err stop
 unfoldable pub whole : List TokenKind → Result Statement Stop
 whole tokens = to_end (statement tokens)
 
--- ---- what a function that reads ensures: the reader's outcome, unless there was no memory
+-- ---- what a function that reads ensures: the parser's outcome, unless there was no memory
 
-abbrev pub Reads : {A : Type 0} → Outcome A → Result A Stop → List TokenKind → Type 0
-Reads outcome result new = Gives NoMemory (λ a. (a, new)) result outcome
+abbrev pub Parses : {A : Type 0} → Outcome A → Result A Stop → List TokenKind → Type 0
+Parses outcome result new = Gives NoMemory (λ a. (a, new)) result outcome
