@@ -5,7 +5,7 @@ use std::alloc::{AllocError, Global};
 use std::test::Fail;
 
 // What is deep, the pieces of a text, and those of its canonical text.
-const READ: [(&str, &[(&str, usize)], &[(&str, usize)]); 14] = [
+const READ: [(&str, &[(&str, usize)], &[(&str, usize)]); 15] = [
     (
         "parentheses",
         &[
@@ -152,6 +152,17 @@ const READ: [(&str, &[(&str, usize)], &[(&str, usize)]); 14] = [
         &[("SELECT * FROM t JOIN u ON a WHERE b", 1)],
     ),
     (
+        "the condition of a query with FOR UPDATE behind it",
+        &[
+            ("SELECT * FROM t WHERE ", 1),
+            ("(", 400),
+            ("a", 1),
+            (")", 400),
+            (" FOR UPDATE", 1),
+        ],
+        &[("SELECT * FROM t WHERE a FOR UPDATE", 1)],
+    ),
+    (
         "the parenthesis of an aggregate isn't counted",
         &[
             ("SELECT SUM(", 1),
@@ -218,7 +229,7 @@ fn four_hundred_are_read(rt: HostRuntime) -> Result<(), Fail> {
 }
 
 // What is too deep, the pieces of a text, and its fault.
-const REFUSED: [(&str, &[(&str, usize)], &str); 29] = [
+const REFUSED: [(&str, &[(&str, usize)], &str); 30] = [
     (
         "parentheses",
         &[
@@ -341,6 +352,15 @@ const REFUSED: [(&str, &[(&str, usize)], &str); 29] = [
     (
         "the condition of a query",
         &[("SELECT * FROM t WHERE ", 1), ("NOT ", 401), ("a", 1)],
+        "TooDeep(1622)",
+    ),
+    (
+        "the condition of a query with FOR UPDATE behind it",
+        &[
+            ("SELECT * FROM t WHERE ", 1),
+            ("NOT ", 401),
+            ("a FOR UPDATE", 1),
+        ],
         "TooDeep(1622)",
     ),
     (

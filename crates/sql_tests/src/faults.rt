@@ -2,7 +2,7 @@
 use crate::parsed::has_fault;
 use std::test::Fail;
 
-const FAULTS: [(&str, &str); 38] = [
+const FAULTS: [(&str, &str); 59] = [
     ("1a SELECT", "BadText(0)"),
     ("SELECT 9223372036854775808 FROM acc", "BadText(7)"),
     ("SELECT a FROM 'x", "BadText(14)"),
@@ -33,12 +33,34 @@ const FAULTS: [(&str, &str); 38] = [
     // names of columns with a star and with two dots
     ("SELECT t.* FROM t", "BadSyntax(9)"),
     ("SELECT a.b.c FROM t", "BadSyntax(10)"),
-    // statements that aren't explained, and queries that lock rows
+    // statements that aren't explained
     ("EXPLAIN UPDATE t SET a = 1", "BadSyntax(8)"),
     ("EXPLAIN EXPLAIN SELECT a FROM t", "BadSyntax(8)"),
-    ("SELECT a FROM t FOR UPDATE", "BadSyntax(16)"),
-    ("SELECT * FROM t WHERE a FOR UPDATE", "BadSyntax(24)"),
-    ("SELECT * FROM t LIMIT 1 FOR UPDATE", "BadSyntax(24)"),
+    // FOR UPDATE cut short, the wrong way round, twice, before the end of a query and behind other statements
+    ("SELECT a FROM t FOR", "BadSyntax(19)"),
+    ("SELECT a FROM t FOR FOR UPDATE", "BadSyntax(20)"),
+    ("SELECT a FROM t FOR UPDAT", "BadSyntax(20)"),
+    ("SELECT a FROM t FOR a", "BadSyntax(20)"),
+    ("SELECT a FROM t FORUPDATE", "BadSyntax(16)"),
+    ("SELECT a FROM t UPDATE", "BadSyntax(16)"),
+    ("SELECT a FROM t UPDATE FOR", "BadSyntax(16)"),
+    ("SELECT a FROM t FOR UPDATE FOR UPDATE", "BadSyntax(27)"),
+    ("SELECT a FROM t FOR UPDATE LIMIT 1", "BadSyntax(27)"),
+    ("SELECT a FROM t FOR UPDATE t", "BadSyntax(27)"),
+    ("SELECT a FROM t AS FOR UPDATE", "BadSyntax(19)"),
+    ("SELECT a FROM t JOIN u FOR UPDATE", "BadSyntax(23)"),
+    ("SELECT a FROM t WHERE FOR UPDATE", "BadSyntax(22)"),
+    ("SELECT * FROM t LIMIT FOR UPDATE", "BadSyntax(22)"),
+    ("SELECT FOR UPDATE FROM t", "BadSyntax(7)"),
+    ("FOR UPDATE", "BadSyntax(0)"),
+    ("FOR UPDATE SELECT a FROM t", "BadSyntax(0)"),
+    ("EXPLAIN SELECT a FROM t FOR", "BadSyntax(24)"),
+    ("EXPLAIN SELECT a FROM t FOR UPDATE", "BadSyntax(24)"),
+    ("INSERT INTO t VALUES (1) FOR UPDATE", "BadSyntax(25)"),
+    ("UPDATE t SET a = 1 FOR UPDATE", "BadSyntax(19)"),
+    ("DELETE FROM t FOR UPDATE", "BadSyntax(14)"),
+    ("BEGIN FOR UPDATE", "BadSyntax(6)"),
+    ("SELECT a FROM t FOR 'x", "BadText(20)"),
     // cut inside a token
     ("SELEC", "BadSyntax(0)"),
     ("SELECT a FRO", "BadSyntax(9)"),

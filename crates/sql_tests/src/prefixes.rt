@@ -10,7 +10,7 @@ use std::test::Fail;
 //   <  BadSyntax at the first byte of its last word: the word is no name where one may stand, nor the keyword
 //   '  BadText at the first byte of its last word: the quote isn't closed
 //   -  no text: it ends inside a character
-const STATEMENTS: [(&str, &str); 21] = [
+const STATEMENTS: [(&str, &str); 25] = [
     ("SELECT * FROM t", "<<<<<>>>><<<>>."),
     (
         "SELECT a , b AS c , - 1 FROM t AS x",
@@ -60,6 +60,19 @@ const STATEMENTS: [(&str, &str); 21] = [
     (
         "SELECT - - a , - ( 1 ) , NOT NOT TRUE FROM t",
         "<<<<<>>>>>>>>>>>>>>>>>>>>>>>>>>>>>>>>><<<>>.",
+    ),
+    ("SELECT * FROM t FOR UPDATE", "<<<<<>>>><<<>>..<<>><<<<<."),
+    (
+        "SELECT a FROM t WHERE b FOR UPDATE",
+        "<<<<<>>>><<<>>..<<<<>>..<<>><<<<<.",
+    ),
+    (
+        "SELECT a FROM t ORDER BY a DESC LIMIT 1 FOR UPDATE",
+        "<<<<<>>>><<<>>..<<<<>><>>..<<<..<<<<>>..<<>><<<<<.",
+    ),
+    (
+        "SELECT a FROM t AS x JOIN u AS y ON c GROUP BY d FOR UPDATE",
+        "<<<<<>>>><<<>>..<>>..<<<>>>><>>>><>>..<<<<>><>>..<<>><<<<<.",
     ),
     ("UPDATE t SET a = b = c", "<<<<<>>>><<>>>>>>..>>."),
     (

@@ -2,12 +2,21 @@
 use crate::parsed::has_canonical_text;
 use std::test::Fail;
 
-const STATEMENTS: [(&str, &str); 13] = [
+const STATEMENTS: [(&str, &str); 16] = [
     (
         "select a+1*2 from t where not a is null",
         "SELECT (a + (1 * 2)) FROM t WHERE (NOT (a IS NULL))",
     ),
     ("SELECT -a FROM t", "SELECT -(a) FROM t"),
+    ("select*from t for update", "SELECT * FROM t FOR UPDATE"),
+    (
+        "SELECT a FROM t WHERE(a)For\tUpdate",
+        "SELECT a FROM t WHERE a FOR UPDATE",
+    ),
+    (
+        "SELECT a FROM t ORDER BY a ASC FOR UPDATE",
+        "SELECT a FROM t ORDER BY a FOR UPDATE",
+    ),
     (
         "SELECT a-b-c, a/b*c, -1-2, - 007, -(1), -0, -a.b FROM t AS x",
         "SELECT ((a - b) - c), ((a / b) * c), (-1 - 2), -7, -(1), 0, -(a.b) FROM t AS x",
@@ -46,7 +55,7 @@ const STATEMENTS: [(&str, &str); 13] = [
 ];
 
 // Texts that are canonical.
-const CANONICAL: [&str; 12] = [
+const CANONICAL: [&str; 21] = [
     "SELECT * FROM t",
     "SELECT -(a), -((a + 1)), (-(-2) * a), (a IS NULL), (a IS NOT NULL) FROM t",
     "EXPLAIN SELECT x.k, COUNT(*), COUNT(a), SUM((a - -5)), MIN(a), MAX(a) AS most FROM t AS x JOIN u ON (x.k = u.k) WHERE (a IS NOT NULL) GROUP BY x.k, a ORDER BY most DESC, x.k LIMIT 10",
@@ -55,6 +64,15 @@ const CANONICAL: [&str; 12] = [
     "UPDATE t SET b = (a + 1), b = (a - 1), b = (a * 1), b = (a / 1), b = (a = 1), b = (a <> 1), b = (a < 1), b = (a <= 1), b = (a > 1), b = (a >= 1), b = (a AND 1), b = (a OR 1)",
     "DELETE FROM t",
     "DELETE FROM t WHERE (NOT a)",
+    "SELECT * FROM t FOR UPDATE",
+    "SELECT a FROM t AS x FOR UPDATE",
+    "SELECT COUNT(*) FROM t FOR UPDATE",
+    "SELECT * FROM t JOIN u ON (t.a = u.a) FOR UPDATE",
+    "SELECT a FROM t WHERE (a = 1) FOR UPDATE",
+    "SELECT a FROM t GROUP BY t.a FOR UPDATE",
+    "SELECT a FROM t ORDER BY a, t.b DESC FOR UPDATE",
+    "SELECT a FROM t LIMIT 0 FOR UPDATE",
+    "SELECT x.k, COUNT(*) AS n FROM t AS x JOIN u AS y ON (x.k = y.k) WHERE (a IS NOT NULL) GROUP BY x.k, a ORDER BY n DESC, x.k LIMIT 10 FOR UPDATE",
     "BEGIN",
     "BEGIN AS OF EPOCH 12",
     "COMMIT",

@@ -20,6 +20,7 @@ enum Seen {
     Number(i64),
     Columns(usize),
     Limit(u64),
+    ForUpdate,
     Descending(bool),
     Other,
 }
@@ -59,6 +60,7 @@ fn view(statement: &Statement) -> Seen {
         Statement::Delete(delete) => seen_in_filter(&delete.filter),
         Statement::Insert(insert) => Seen::Columns(insert.columns.items().len()),
         Statement::Select(query) => seen_in_query(query),
+        Statement::SelectForUpdate(_) => Seen::ForUpdate,
         _ => Seen::Other,
     }
 }
@@ -117,6 +119,8 @@ SELECT * FROM t ORDER BY a ASC => Descending(false)
 SELECT * FROM t ORDER BY a DESC => Descending(true)
 SELECT * FROM t ORDER BY a, b DESC => Descending(false)
 SELECT * FROM t LIMIT 0 => Limit(0)
+SELECT * FROM t FOR UPDATE => ForUpdate
+SELECT * FROM t ORDER BY a LIMIT 7 FOR UPDATE => ForUpdate
 SELECT * FROM t ORDER BY a LIMIT 7 => Limit(7)";
 
 fn is_tree(alloc: Global, line: &str) -> Result<bool, Fail> {
