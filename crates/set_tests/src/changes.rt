@@ -1,9 +1,12 @@
 //! Changes of rows, made from words and written as texts.
+ghost use Rattle.std.specs.Prelude.{◌≡◌, true, All, IsTrue};
+ghost use Rattle.write_set.specs.declared.change.Change.TheVariants.{Touch};
+
 use geo_base::{Cell, Key, RowId, RowImage, print_row};
 use std::alloc::Global;
 use std::fmt::Write;
 use std::test::Fail;
-use write_set::{Change, RowChange};
+use write_set::{Change, RowChange, SetFault, WriteSet};
 
 /// The row's name: its table, and its key as a row.
 pub fn add_name(out: &mut String, row: &RowId) -> Result<(), Fail> {
@@ -19,15 +22,19 @@ pub fn add_row(out: &mut String, row: &RowId, image: &RowImage) -> Result<(), Fa
     Ok(print_row(out, image.cells())?)
 }
 
-/// The change behind `; `: a row as by [`add_row`], or the name of one that is removed.
+/// The row's name behind `; `, and what is done to it.
+fn add_done(out: &mut String, row: &RowId, done: &str) -> Result<(), Fail> {
+    out.push_str("; ")?;
+    add_name(out, row)?;
+    Ok(out.push_str(done)?)
+}
+
+/// The change behind `; `: a row as by [`add_row`], or the name of one that is removed or touched.
 pub fn add_change(out: &mut String, row: &RowId, change: &Change) -> Result<(), Fail> {
     match change {
         Change::Put(image) => add_row(out, row, image),
-        Change::Remove => {
-            out.push_str("; ")?;
-            add_name(out, row)?;
-            Ok(out.push_str(" removed")?)
-        }
+        Change::Remove => add_done(out, row, " removed"),
+        Change::Touch => add_done(out, row, " touched"),
     }
 }
 
@@ -42,8 +49,12 @@ fn image_of(alloc: Global, key: i64, value: i64) -> Result<RowImage, Fail> {
     Ok(RowImage::new(vec![in alloc; Cell::Int(key), Cell::Int(value)]?)?)
 }
 
-/// The key of a word, and what the word does to its row: `1=10` puts 10 at 1, and `1` removes it.
+/// The key of a word, and what the word does to its row: `1=10` puts 10 at 1, `1` removes it, and `@1`
+/// touches it.
 pub fn change_of(alloc: Global, word: &str) -> Result<(i64, Change), Fail> {
+    if let Some(key) = word.strip_prefix('@') {
+        return Ok((key.parse()?, Change::Touch));
+    }
     match word.split_once('=') {
         Some((key, value)) => {
             let (key, value) = (key.parse()?, value.parse()?);
@@ -75,4 +86,38 @@ pub fn row_changes_of(alloc: Global, words: &str) -> Result<Vec<RowChange>, Fail
         changes.push(row_change_of(alloc, word)?)?;
     }
     Ok(changes)
+}
+
+/// Whether the row is in the snapshot, or isn't touched.
+fn is_known(change: &RowChange) -> bool
+    ensures { IsTrue result → change.now.change ≡ Touch → change.now.before ≡ true }
+{
+    change.before || !matches!(change.change, Change::Touch)
+}
+
+/// Whether each touched row is in the snapshot.
+fn are_known(changes: &[RowChange]) -> bool
+    ensures { IsTrue result → All (λ c. c.change ≡ Touch → c.before ≡ true) changes.now }
+{
+    changes.iter().all(|change| is_known(change))
+}
+
+/// What [`WriteSet::with`] answers, or None where a touched row isn't in the snapshot.
+pub fn with_changes(
+    alloc: Global,
+    set: &WriteSet,
+    changes: Vec<RowChange>,
+) -> Option<Result<WriteSet, SetFault>> {
+    if are_known(&changes) {
+        Some(set.with(alloc, changes))
+    } else {
+        None
+    }
+}
+
+/// The net of the set and of the changes of the words.
+pub fn with_words(alloc: Global, set: &WriteSet, words: &str) -> Result<WriteSet, Fail> {
+    let changes = row_changes_of(alloc, words)?;
+    let net = with_changes(alloc, set, changes).ok_or("a touch of an unknown row")?;
+    Ok(net?)
 }

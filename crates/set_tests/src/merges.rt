@@ -2,7 +2,7 @@
 ghost use Rattle.std.specs.Prelude.{◌≡◌, IsTrue, IfOk, IfSome};
 ghost use Rattle.write_set.specs.Journal.{IsCandidate, IsBatch};
 
-use crate::changes::{add_name, add_row, change_of, row_changes_of, row_of};
+use crate::changes::{add_name, add_row, change_of, row_of, with_words};
 use geo_base::limits::{MAX_AGE, MAX_CANDIDATES};
 use geo_base::{Duplicate, Epoch, Outcome, RegionNo};
 use std::alloc::Global;
@@ -18,7 +18,7 @@ fn set_of(alloc: Global, words: &str) -> Result<WriteSet, Fail> {
     let (first, rest) = words.split_once(' ').unwrap_or((words, ""));
     let (key, change) = change_of(alloc, first)?;
     let one = WriteSet::one(alloc, row_of(alloc, key)?, change)?;
-    Ok(one.with(alloc, row_changes_of(alloc, rest)?)?)
+    with_words(alloc, &one, rest)
 }
 
 fn is_lawful(epoch: Epoch, c: &Candidate) -> bool
@@ -241,6 +241,52 @@ fn a_change_after_the_start_aborts(rt: HostRuntime) -> Result<(), Fail> {
         (changed_since.as_slice(), "; 0(1) -> (1, 12); end"),
         (changed_at_the_start.as_slice(), "; 0(1) -> (1, 12); end"),
         (removed.as_slice(), "; 0(2) -> (2, 21); end"),
+    ] {
+        assert!(rt; is_followed(rt.alloc(), 3, cases, rows)?, "{rows}");
+    }
+    Ok(())
+}
+
+/// A touched row is claimed and has to be fresh, and it is as it was.
+#[test]
+fn a_touch_claims_its_row(rt: HostRuntime) -> Result<(), Fail> {
+    let put_beaten: [Case; 3] = [
+        (1, 0, 0, "1=10", "committed"),
+        (2, 0, 1, "@1", "committed"),
+        (2, 0, 1, "1=20", "beaten 0(1) by 2.0.0"),
+    ];
+    let touch_beaten: [Case; 3] = [
+        (1, 0, 0, "1=10", "committed"),
+        (2, 0, 1, "@1 2=2", "committed"),
+        (2, 1, 1, "@1 3=3", "beaten 0(1) by 2.0.0"),
+    ];
+    let each_has_both: [Case; 3] = [
+        (1, 0, 0, "1=1 2=1", "committed"),
+        (2, 0, 1, "1=0 @2", "committed"),
+        (2, 0, 1, "@1 2=0", "beaten 0(1) by 2.0.0"),
+    ];
+    let changed_since: [Case; 3] = [
+        (1, 0, 0, "1=10", "committed"),
+        (2, 0, 1, "1=11", "committed"),
+        (3, 0, 1, "@1 2=2", "changed 0(1) in 2"),
+    ];
+    let touched_since: [Case; 3] = [
+        (1, 0, 0, "1=10", "committed"),
+        (2, 0, 1, "@1", "committed"),
+        (3, 0, 1, "1=12", "committed"),
+    ];
+    for (cases, rows) in [
+        (put_beaten.as_slice(), "; 0(1) -> (1, 10); end"),
+        (
+            touch_beaten.as_slice(),
+            "; 0(1) -> (1, 10); 0(2) -> (2, 2); end",
+        ),
+        (
+            each_has_both.as_slice(),
+            "; 0(1) -> (1, 0); 0(2) -> (2, 1); end",
+        ),
+        (changed_since.as_slice(), "; 0(1) -> (1, 11); end"),
+        (touched_since.as_slice(), "; 0(1) -> (1, 12); end"),
     ] {
         assert!(rt; is_followed(rt.alloc(), 3, cases, rows)?, "{rows}");
     }

@@ -1,5 +1,5 @@
 //! Net write sets, worked by hand from the rule of the net.
-use crate::changes::{add_change, row_changes_of, row_of};
+use crate::changes::{add_change, row_changes_of, row_of, with_changes, with_words};
 use geo_base::{Cell, Duplicate, RowImage, Txt};
 use std::alloc::Global;
 use std::test::Fail;
@@ -39,8 +39,8 @@ fn says(alloc: Global, set: &WriteSet, text: &str) -> Result<bool, Fail> {
 
 /// The net of the changes of a set and of those after them.
 fn net_of(alloc: Global, set: &str, changes: &str) -> Result<WriteSet, Fail> {
-    let set = WriteSet::empty(alloc).with(alloc, row_changes_of(alloc, set)?)?;
-    Ok(set.with(alloc, row_changes_of(alloc, changes)?)?)
+    let set = with_words(alloc, &WriteSet::empty(alloc), set)?;
+    with_words(alloc, &set, changes)
 }
 
 fn is_net(
@@ -53,7 +53,7 @@ fn is_net(
 
 /// Changes of a set, those after them, and what is left, with its size. `+` stands before a row that the
 /// snapshot lacks.
-const NETS: [(&str, &str, &str, u64); 6] = [
+const NETS: [(&str, &str, &str, u64); 9] = [
     // No change.
     ("", "", "; end", 0),
     // Put over put.
@@ -64,6 +64,22 @@ const NETS: [(&str, &str, &str, u64); 6] = [
     ("", "1 1=12 +2", "; 0(1) -> (1, 12); end", 20),
     // Put by the set, and removed behind it, of a row that the snapshot lacks.
     ("+1=10", "+1", "; end", 0),
+    // Touched.
+    ("", "@1 @2", "; 0(1) touched; 0(2) touched; end", 22),
+    // Rows that the set has are touched.
+    (
+        "+1=10 2 @3",
+        "@1 @2 @3",
+        "; 0(1) -> (1, 10); 0(2) removed; 0(3) touched; end",
+        42,
+    ),
+    // Touched, and then put or removed.
+    (
+        "@1 @2",
+        "1=10 2",
+        "; 0(1) -> (1, 10); 0(2) removed; end",
+        31,
+    ),
     // A row of the set is removed, another one is put again, and new ones stand between and behind them.
     (
         "5=50 +1=10 3",
@@ -108,7 +124,10 @@ fn told(alloc: Global, rows: i64, first: usize, behind: &str) -> Result<Option<S
     for change in row_changes_of(alloc, behind)? {
         changes.push(change)?;
     }
-    Ok(WriteSet::empty(alloc).with(alloc, changes).err())
+    match with_changes(alloc, &WriteSet::empty(alloc), changes) {
+        Some(net) => Ok(net.err()),
+        None => Err("a touch of an unknown row".into()),
+    }
 }
 
 /// A change of 1,024 bytes has a text of 1,010 of them behind its table, its kind, its key of 9 bytes, and

@@ -13,7 +13,7 @@ use Rattle.geo_base.specs.declared.outcome.Outcome.TheVariants.{Committed, Chang
 use Rattle.geo_base.specs.Order.{row_cmp, row_eq}
 use Rattle.geo_base.specs.laws.Orders.{row_cmp_total, same_row}
 use Rattle.geo_base.specs.laws.Winning.{beats_total}
-use Rattle.write_set.specs.Sets.{ChangeOfRow, has_row, Rises}
+use Rattle.write_set.specs.Sets.{ChangeOfRow, has_row, changes_row, Rises}
 use Rattle.write_set.specs.Journal.{Journal, Placed, epochs_of}
 use Rattle.write_set.specs.Merge.{claim_of, wins, id_of, is_fresh, contenders, is_beaten_on, first_changed, first_beaten, changed_or, beaten_or_committed, winner_of, verdict_of, committed, last_change}
 use Rattle.write_set.specs.Rules.{IsLastChange, IsLeast, IsFresh, IsContender, IsBeaten, IsBest, IsVerdict}
@@ -166,21 +166,21 @@ module _ (last : RowId → ℕ) where
 last_changed : (journal : Journal) (n : ℕ) (row : RowId) →
     (last_change (epochs_of journal n) row ≤ n)
     × (1 ≤ last_change (epochs_of journal n) row →
-    (c : Placed) × Contains (committed (epochs_of journal (last_change (epochs_of journal n) row))) c × (has_row row c.set ≡ true))
+    (c : Placed) × Contains (committed (epochs_of journal (last_change (epochs_of journal n) row))) c × (changes_row row c.set ≡ true))
 last_changed journal zero row = (omega arith, λ some. absurd (omega arith))
-last_changed journal (suc n) row = by (list_any (λ c. has_row row c.set) (committed (epochs_of journal (suc n)))) refl (last_changed journal n row)
+last_changed journal (suc n) row = by (list_any (λ c. changes_row row c.set) (committed (epochs_of journal (suc n)))) refl (last_changed journal n row)
   where
     at : ℕ → Type 0
-    at e = (e ≤ suc n) × (1 ≤ e → (c : Placed) × Contains (committed (epochs_of journal e)) c × (has_row row c.set ≡ true))
+    at e = (e ≤ suc n) × (1 ≤ e → (c : Placed) × Contains (committed (epochs_of journal e)) c × (changes_row row c.set ≡ true))
 
-    by : (b : Bool) → list_any (λ c. has_row row c.set) (committed (epochs_of journal (suc n))) ≡ b →
+    by : (b : Bool) → list_any (λ c. changes_row row c.set) (committed (epochs_of journal (suc n))) ≡ b →
         (last_change (epochs_of journal n) row ≤ n)
         × (1 ≤ last_change (epochs_of journal n) row →
-        (c : Placed) × Contains (committed (epochs_of journal (last_change (epochs_of journal n) row))) c × (has_row row c.set ≡ true)) →
+        (c : Placed) × Contains (committed (epochs_of journal (last_change (epochs_of journal n) row))) c × (changes_row row c.set ≡ true)) →
         at (cond b (length (epochs_of journal n) + 1) (last_change (epochs_of journal n) row))
     by true is rest =
         let this : suc n ≡ length (epochs_of journal n) + 1 = omega (arith, length_epochs journal n) in
-        subst at this (omega arith, λ some. any_found (λ c. has_row row c.set) (committed (epochs_of journal (suc n))) is)
+        subst at this (omega arith, λ some. any_found (λ c. changes_row row c.set) (committed (epochs_of journal (suc n))) is)
     by false is rest = (omega (arith, rest.0), rest.1)
 
 last_change_such : (journal : Journal) (upto : ℕ) (row : RowId) → IsLastChange journal upto row (last_change (epochs_of journal upto) row)

@@ -12,15 +12,15 @@ use Rattle.geo_base.specs.declared.row_id.RowId.{RowId}
 use Rattle.geo_base.specs.Order.{row_cmp, row_eq}
 use Rattle.write_set.specs.declared.batch.Batch.{Batch}
 use Rattle.write_set.specs.declared.entrant.Entrant.{Entrant}
-use Rattle.write_set.specs.Sets.{ChangeOfRow, has_row}
+use Rattle.write_set.specs.Sets.{ChangeOfRow, has_row, alters, changes_row}
 use Rattle.write_set.specs.Journal.{Placed, Epochs, AreBatches}
 use Rattle.write_set.specs.Merge.{wins, id_of, is_fresh, contenders, is_beaten_on, winner_of, first_changed, first_beaten, changed_or, beaten_or_committed, verdict_of, committed, last_change, verdicts}
 use Rattle.write_set.specs.Overlay.{overlay}
 use Rattle.write_set.specs.Snapshot.{changes_of}
 use Rattle.write_set.specs.inner.Entrants.{placed, fresh_of, loses_row, keeper_of, first_lost, lost_or_committed, outcome_of, writes_of}
 use Rattle.write_set.specs.laws.Lookups.{lookup_put}
-use Rattle.write_set.specs.Plain.{Merged, IsMergeOf}
-use Rattle.write_set.specs.inner.LastChanges.{last_in, noted}
+use Rattle.write_set.specs.Plain.{Merged, IsMergeOf, last_in}
+use Rattle.write_set.specs.inner.LastChanges.{noted, rows_altered}
 
 -- ---- lists
 
@@ -85,13 +85,19 @@ last_noted q epoch l (row ∷ rows) =
     ∙ ap (λ x. if list_any (row_eq q) rows then epoch else x) (last_put q row epoch l)
     ∙ put_twice (list_any (row_eq q) rows) (row_eq q row) epoch (last_in l q)
 
-any_key : (q : RowId) (set : List ChangeOfRow) → list_any (row_eq q) (keys_of set) ≡ has_row q set
-any_key q [] = refl
-any_key q (p ∷ ps) = ap (λ b. row_eq q p.0 || b) (any_key q ps)
+any_altered : (q : RowId) (set : List ChangeOfRow) → list_any (row_eq q) (rows_altered set) ≡ changes_row q set
+any_altered q [] = refl
+any_altered q (p ∷ ps) = by (alters p.1) (row_eq q p.0) refl (any_altered q ps)
+  where
+    by : (a e : Bool) → row_eq q p.0 ≡ e → list_any (row_eq q) (rows_altered ps) ≡ changes_row q ps →
+        list_any (row_eq q) (keys_of (if a then p ∷ filter (λ r. alters r.1) ps else filter (λ r. alters r.1) ps)) ≡ (row_eq q p.0 && a || changes_row q ps)
+    by true e is rest = grind (arith, rest)
+    by false e is rest = grind (arith, rest)
 
-any_write : (q : RowId) (cs : List Placed) → has_row q (changes_of cs) ≡ list_any (λ c. has_row q c.set) cs
+any_write : (q : RowId) (cs : List Placed) → changes_row q (changes_of cs) ≡ list_any (λ c. changes_row q c.set) cs
 any_write q [] = refl
-any_write q (c ∷ cs) = list_any-append (λ p. row_eq q p.0) c.set (changes_of cs) ∙ ap (λ b. has_row q c.set || b) (any_write q cs)
+any_write q (c ∷ cs) =
+    list_any-append (λ p. row_eq q p.0 && alters p.1) c.set (changes_of cs) ∙ ap (λ b. changes_row q c.set || b) (any_write q cs)
 
 -- ---- one more epoch
 
@@ -109,15 +115,15 @@ module _ (epochs : Epochs) (old : Merged) (merge : IsMergeOf epochs old) (all : 
   writes_are i = writes_of (outcomes_are i) all
 
   module _ (new : Merged) (writes : List ChangeOfRow) (writes_is : writes ≡ writes_of (outcome_of (last_in old.changes) (old.epoch + 1) fresh) all) where
-    newest_changes : new.changes ≡ noted (old.epoch + 1) old.changes (keys_of writes) → (row : RowId) → last_in new.changes row ≡ last_change (all ∷ epochs) row
+    newest_changes : new.changes ≡ noted (old.epoch + 1) old.changes (rows_altered writes) → (row : RowId) → last_in new.changes row ≡ last_change (all ∷ epochs) row
     newest_changes changes row =
         ap (λ l. last_in l row) changes
-        ∙ last_noted row (old.epoch + 1) old.changes (keys_of writes)
-        ∙ ap (λ b. if b then old.epoch + 1 else last_in old.changes row) (any_key row writes ∙ ap (has_row row) (writes_is ∙ writes_are) ∙ any_write row (committed (all ∷ epochs)))
-        ∙ (λ i. if list_any (λ c. has_row row c.set) (committed (all ∷ epochs)) then merge.count i + 1 else merge.last row i)
+        ∙ last_noted row (old.epoch + 1) old.changes (rows_altered writes)
+        ∙ ap (λ b. if b then old.epoch + 1 else last_in old.changes row) (any_altered row writes ∙ ap (changes_row row) (writes_is ∙ writes_are) ∙ any_write row (committed (all ∷ epochs)))
+        ∙ (λ i. if list_any (λ c. changes_row row c.set) (committed (all ∷ epochs)) then merge.count i + 1 else merge.last row i)
 
     -- the writes laid over the rows, and their rows noted, are the merge of one epoch more
-    pub merged : new.epoch ≡ old.epoch + 1 → new.rows ≡ overlay old.rows writes → new.changes ≡ noted (old.epoch + 1) old.changes (keys_of writes) → IsMergeOf (all ∷ epochs) new
+    pub merged : new.epoch ≡ old.epoch + 1 → new.rows ≡ overlay old.rows writes → new.changes ≡ noted (old.epoch + 1) old.changes (rows_altered writes) → IsMergeOf (all ∷ epochs) new
     merged epoch rows changes = record {
       count = omega (arith, epoch, merge.count);
       table = rows ∙ (λ i. overlay (merge.table i) ((writes_is ∙ writes_are) i));

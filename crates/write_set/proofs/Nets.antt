@@ -1,61 +1,99 @@
--- A net write set has what each row's last change leaves, and no other set does.
-use Rattle.std.proofs.Common.{◌≡◌, ◌↔◌, Bool, true, false, cond, T, ◌&&◌, Option, None, Some, List, [], ◌∷◌, reverse, find, refl, sym, ap, ◌∙◌, subst}
+-- What the changes leave, one after another, is the net, and no other list is.
+use Rattle.std.proofs.Common.{◌≡◌, ◌↔◌, Bool, true, false, cond, T, ◌&&◌, Option, None, Some, unwrap_or, List, [], ◌∷◌, refl, sym, ap, ◌∙◌, subst}
 use Rattle.std.specs.FinMap.Entries as entries
 use Rattle.std.specs.List.{AllByRecursion}
 use Rattle.std.specs.List.Sorted.{IsStrictlySortedBy}
 use Rattle.std.specs.Map.{keys_of}
+use Rattle.std.specs.Option.{is_some}
 use Rattle.std.specs.Ordering.{is_lt}
 use Rattle.std.specs.declared.cmp.Ordering.TheVariants.{Less}
-use Rattle.std.specs.BTreeMap.{is_at}
-use Rattle.std.specs.Option.{option_or, option_map_or}
-use Rattle.std.proofs.lemmas.List.{reverse-append}
-use Rattle.std.proofs.lemmas.List.Folds.{find-append}
+use Rattle.std.specs.BTreeMap.{insert_entry, is_at}
+use Rattle.std.proofs.lemmas.Bool.{false≢true}
 use Rattle.geo_base.specs.declared.row_id.RowId.{RowId}
 use Rattle.geo_base.specs.Order.{row_cmp, row_eq}
 use Rattle.geo_base.specs.laws.Orders.{row_cmp_total, same_row}
 use Rattle.write_set.specs.declared.change.Change.{Change}
+use Rattle.write_set.specs.declared.change.Change.TheVariants.{Put, Remove, Touch}
 use Rattle.write_set.specs.declared.row_change.RowChange.{RowChange}
-use Rattle.write_set.specs.Net.{left_by, with_left, net_of, change_in, last_of, IsNet}
+use Rattle.write_set.specs.declared.set_fault.SetFault.{SetFault}
+use Rattle.write_set.specs.Net.{change_in, left_by, left_of, IsNet, TouchesKnown, HasTouchesOf, HasCause, HasNetCause}
 use Rattle.write_set.specs.Sets.{ChangeOfRow, Rises}
+use Rattle.write_set.specs.inner.Nets.{made, net_of}
 use Rattle.write_set.specs.laws.Lookups.{lookup_put, lookup_removed}
+use Rattle.write_set.specs.laws.Nets.{touches_left}
 use Rattle.write_set.specs.laws.Rising.{rises_put, rises_removed}
+use Rattle.write_set.specs.laws.Rivals.{row_same}
 
-rises_left : (row : RowId) (o : Option Change) (set : List ChangeOfRow) → Rises set → Rises (with_left row o set)
-rises_left row None set h = rises_removed (is_at (row_cmp row)) set h
-rises_left row (Some change) set h = rises_put row change set h
+-- ---- one change
 
-left_in : (row : RowId) (o : Option Change) (set : List ChangeOfRow) (at : RowId) → Rises set →
-    change_in (with_left row o set) at ≡ cond (row_eq at row) o (change_in set at)
-left_in row None set at h = lookup_removed set row at h
-left_in row (Some change) set at h = lookup_put set row at change
+rises_made : (row : RowId) (before : Bool) (change : Change) (set : List ChangeOfRow) → Rises set → Rises (made row before change set)
+rises_made row before (Put image) set h = rises_put row (Put image) set h
+rises_made row true Remove set h = rises_put row Remove set h
+rises_made row false Remove set h = rises_removed (is_at (row_cmp row)) set h
+rises_made row before Touch set h = by (is_some (change_in set row))
+  where
+    by : (b : Bool) → Rises (cond b set (insert_entry row_cmp set row Touch))
+    by true = h
+    by false = rises_put row Touch set h
+
+held_is : (held : Option Change) → is_some held ≡ true → held ≡ Some (unwrap_or held Touch)
+held_is None some = absurd (false≢true some)
+held_is (Some change) some = refl
+
+none_held : (held : Option Change) → is_some held ≡ false → Some Touch ≡ Some (unwrap_or held Touch)
+none_held None none = refl
+none_held (Some change) none = absurd (false≢true (sym none))
+
+-- a touch of a row that the set has, and of one that it lacks
+touch_kept : (q : Bool) (held : Option Change) → (q ≡ true → is_some held ≡ true) → held ≡ cond q (Some (unwrap_or held Touch)) held
+touch_kept true held some = held_is held (some refl)
+touch_kept false held some = refl
+
+touch_put : (q : Bool) (held : Option Change) → (q ≡ true → is_some held ≡ false) → cond q (Some Touch) held ≡ cond q (Some (unwrap_or held Touch)) held
+touch_put true held none = none_held held (none refl)
+touch_put false held none = refl
+
+touched_in : (row : RowId) (set : List ChangeOfRow) (at : RowId) →
+    change_in (cond (is_some (change_in set row)) set (insert_entry row_cmp set row Touch)) at
+    ≡ cond (row_eq at row) (Some (unwrap_or (change_in set at) Touch)) (change_in set at)
+touched_in row set at = by (is_some (change_in set row)) refl
+  where
+    same : row_eq at row ≡ true → is_some (change_in set at) ≡ is_some (change_in set row)
+    same e = ap (λ r. is_some (change_in set r)) (row_same at row e)
+
+    by : (b : Bool) → is_some (change_in set row) ≡ b →
+        change_in (cond b set (insert_entry row_cmp set row Touch)) at ≡ cond (row_eq at row) (Some (unwrap_or (change_in set at) Touch)) (change_in set at)
+    by true is = touch_kept (row_eq at row) (change_in set at) (λ e. same e ∙ is)
+    by false is = lookup_put set row at Touch ∙ touch_put (row_eq at row) (change_in set at) (λ e. same e ∙ is)
+
+made_in : (row : RowId) (before : Bool) (change : Change) (set : List ChangeOfRow) (at : RowId) → Rises set →
+    change_in (made row before change set) at ≡ cond (row_eq at row) (left_by before change (change_in set at)) (change_in set at)
+made_in row before (Put image) set at h = lookup_put set row at (Put image)
+made_in row true Remove set at h = lookup_put set row at Remove
+made_in row false Remove set at h = lookup_removed set row at h
+made_in row before Touch set at h = touched_in row set at
+
+-- ---- all of them
 
 rises_net : (set : List ChangeOfRow) (changes : List RowChange) → Rises set → Rises (net_of set changes)
 rises_net set [] h = h
-rises_net set (c ∷ cs) h = rises_net (with_left c.row (left_by c.before c.change) set) cs (rises_left c.row (left_by c.before c.change) set h)
-
-last_first : (c : RowChange) (cs : List RowChange) (row : RowId) → last_of (c ∷ cs) row ≡ option_or (last_of cs row) (cond (row_eq row c.row) (Some c) None)
-last_first c cs row =
-    ap (find (λ d. row_eq row d.row)) (reverse-append (c ∷ []) cs) ∙ find-append (λ d. row_eq row d.row) (reverse cs) (c ∷ [])
-
-last_or : (last : Option RowChange) (b : Bool) (c : RowChange) (o : Option Change) →
-    option_map_or (λ d. left_by d.before d.change) last (cond b (left_by c.before c.change) o)
-    ≡ option_map_or (λ d. left_by d.before d.change) (option_or last (cond b (Some c) None)) o
-last_or None true c o = refl
-last_or None false c o = refl
-last_or (Some d) b c o = refl
+rises_net set (c ∷ cs) h = rises_net (made c.row c.before c.change set) cs (rises_made c.row c.before c.change set h)
 
 rows_net : (set : List ChangeOfRow) (changes : List RowChange) (row : RowId) → Rises set →
-    change_in (net_of set changes) row ≡ option_map_or (λ c. left_by c.before c.change) (last_of changes row) (change_in set row)
+    change_in (net_of set changes) row ≡ left_of changes row (change_in set row)
 rows_net set [] row h = refl
 rows_net set (c ∷ cs) row h =
-    let o = left_by c.before c.change in
-    rows_net (with_left c.row o set) cs row (rises_left c.row o set h)
-    ∙ ap (option_map_or (λ d. left_by d.before d.change) (last_of cs row)) (left_in c.row o set row h)
-    ∙ last_or (last_of cs row) (row_eq row c.row) c (change_in set row)
-    ∙ ap (λ l. option_map_or (λ d. left_by d.before d.change) l (change_in set row)) (sym (last_first c cs row))
+    rows_net (made c.row c.before c.change set) cs row (rises_made c.row c.before c.change set h)
+    ∙ ap (left_of cs row) (made_in c.row c.before c.change set row h)
 
 pub is_net : (set : List ChangeOfRow) (changes : List RowChange) → Rises set → IsNet set changes (net_of set changes)
 is_net set changes h = record { rising = rises_net set changes h; rows = λ row. rows_net set changes row h }
+
+pub net_touches : (set : List ChangeOfRow) (changes : List RowChange) → Rises set → TouchesKnown set changes → HasTouchesOf set changes (net_of set changes)
+net_touches set changes h known row touched = touches_left changes (change_in set) known row (sym (rows_net set changes row h) ∙ touched)
+
+pub net_cause : (set : List ChangeOfRow) (changes : List RowChange) (fault : SetFault) → Rises set → HasCause fault (net_of set changes) → HasNetCause set changes fault
+net_cause set changes fault h cause = (net_of set changes, is_net set changes h, cause)
 
 -- ---- there is one net
 

@@ -1,5 +1,6 @@
--- Which candidates of an epoch commit, and the last change of a row: pairwise, over the list of candidates. These functions are
--- the description to believe. Rules says again what has to hold of what they give, and is tied to them by laws.
+-- Which candidates of an epoch commit, and the last change of a row: pairwise, over the list of candidates. The rows of a candidate
+-- are all those that its set has, touched ones included; it changes only those that it puts or removes. These functions are the
+-- description to believe. Rules says again what has to hold of what they give, and is tied to them by laws.
 use Rattle.std.specs.Prelude.{ℕ, ◌+◌, Bool, true, false, ◌&&◌, not, nat_lt, nat_le, Option, None, Some, unwrap_or, if◌then◌else◌, List, [], ◌∷◌, length, filter, find, map}
 use Rattle.std.specs.List.{list_any, list_all}
 use Rattle.geo_base.specs.declared.row_id.RowId.{RowId}
@@ -8,7 +9,7 @@ use Rattle.geo_base.specs.declared.claim.Claim.{Claim}
 use Rattle.geo_base.specs.declared.numbers.CandId.{CandId}
 use Rattle.geo_base.specs.declared.outcome.Outcome.{Outcome}
 use Rattle.geo_base.specs.declared.outcome.Outcome.TheVariants.{Committed, Changed, Beaten}
-use Rattle.write_set.specs.Sets.{ChangeOfRow, has_row}
+use Rattle.write_set.specs.Sets.{ChangeOfRow, has_row, changes_row}
 use Rattle.write_set.specs.Journal.{Placed, Epochs}
 
 -- what a candidate is compared with others of its epoch by
@@ -23,7 +24,7 @@ wins a b = beats (claim_of a) (claim_of b)
 abbrev pub id_of : ℕ → Placed → CandId
 id_of epoch c = record { epoch = epoch; region = c.region; csn = c.csn }
 
--- no row of the candidate was changed after its start, where `last` gives each row's last change
+-- no row of the candidate, changed or touched by it, was changed after its start, where `last` gives each row's last change
 abbrev pub is_fresh : (RowId → ℕ) → Placed → Bool
 is_fresh last c = list_all (λ p. nat_le (last p.0) c.start) c.set
 
@@ -70,11 +71,11 @@ is_committed _ = false
 abbrev pub committed_of : (RowId → ℕ) → ℕ → List Placed → List Placed
 committed_of last epoch all = filter (λ c. is_committed (verdict_of last epoch all c)) all
 
--- the last epoch of these in which a committed candidate has the row, or 0
+-- the last epoch of these in which a committed candidate changes the row, or 0
 abbrev pub last_change : Epochs → RowId → ℕ
 last_change [] row = 0
 last_change (all ∷ older) row =
-    if list_any (λ c. has_row row c.set) (committed_of (last_change older) (length older + 1) all)
+    if list_any (λ c. changes_row row c.set) (committed_of (last_change older) (length older + 1) all)
     then length older + 1
     else last_change older row
 

@@ -7,17 +7,17 @@ use Rattle.geo_base.specs.declared.row_id.RowId.{RowId}
 use Rattle.geo_base.specs.declared.outcome.Outcome.{Outcome}
 use Rattle.geo_base.specs.declared.outcome.Outcome.TheVariants.{Committed, Changed, Beaten}
 use Rattle.geo_base.specs.Order.{row_cmp}
-use Rattle.write_set.specs.Sets.{has_row}
+use Rattle.write_set.specs.Sets.{has_row, changes_row}
 use Rattle.write_set.specs.Journal.{Journal, Placed, epochs_of}
 use Rattle.write_set.specs.Merge.{wins, id_of, committed}
 
--- the epoch is the last one, up to the given one, in which a candidate that commits has the row; or it is 0 and there is none
+-- the epoch is the last one, up to the given one, in which a candidate that commits changes the row; or it is 0 and there is none
 pub record IsLastChange (journal : Journal) (upto : ℕ) (row : RowId) (epoch : ℕ) : Type 0 where
   pub within : epoch ≤ upto
-  pub changed : 1 ≤ epoch → (c : Placed) × Contains (committed (epochs_of journal epoch)) c × (has_row row c.set ≡ true)
-  pub last : (e : ℕ) (c : Placed) → e ≤ upto → Contains (committed (epochs_of journal e)) c → has_row row c.set ≡ true → e ≤ epoch
+  pub changed : 1 ≤ epoch → (c : Placed) × Contains (committed (epochs_of journal epoch)) c × (changes_row row c.set ≡ true)
+  pub last : (e : ℕ) (c : Placed) → e ≤ upto → Contains (committed (epochs_of journal e)) c → changes_row row c.set ≡ true → e ≤ epoch
 
--- of the candidate's rows that are such, this one is the least
+-- of the candidate's rows that are such, changed or touched, this one is the least
 pub record IsLeast (Such : RowId → Type 0) (c : Placed) (row : RowId) : Type 0 where
   pub has : has_row row c.set ≡ true
   pub such : Such row

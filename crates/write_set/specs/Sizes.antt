@@ -2,7 +2,7 @@
 use Rattle.std.specs.Prelude.{ℕ, ◌+◌, List, length, sum_by}
 use Rattle.geo_base.specs.declared.cell.Cell.{Cell}
 use Rattle.geo_base.specs.declared.cell.Cell.TheVariants as cell
-use Rattle.write_set.specs.declared.change.Change.TheVariants.{Put, Remove}
+use Rattle.write_set.specs.declared.change.Change.TheVariants.{Put, Remove, Touch}
 use Rattle.write_set.specs.declared.candidate.Candidate.{Candidate}
 use Rattle.write_set.specs.Sets.{ChangeOfRow}
 
@@ -17,6 +17,7 @@ cell_size (cell.Truth _) = 1
 abbrev pub change_size : ChangeOfRow → ℕ
 change_size (row, Put image) = 2 + sum_by cell_size image
 change_size (row, Remove) = 2 + sum_by cell_size row.key
+change_size (row, Touch) = 2 + sum_by cell_size row.key
 
 -- the changes, one behind another
 abbrev pub set_size : List ChangeOfRow → ℕ

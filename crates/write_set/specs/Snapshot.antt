@@ -6,7 +6,7 @@ use Rattle.geo_base.specs.declared.row_id.RowId.{RowId}
 use Rattle.geo_base.specs.declared.row_image.RowImage.{RowImage}
 use Rattle.geo_base.specs.Order.{row_eq}
 use Rattle.write_set.specs.declared.change.Change.{Change}
-use Rattle.write_set.specs.declared.change.Change.TheVariants.{Put, Remove}
+use Rattle.write_set.specs.declared.change.Change.TheVariants.{Put, Remove, Touch}
 use Rattle.write_set.specs.Sets.{ChangeOfRow}
 use Rattle.write_set.specs.Journal.{Placed, Epochs}
 use Rattle.write_set.specs.Merge.{committed}
@@ -16,15 +16,16 @@ use Rattle.write_set.specs.Overlay.{Table, overlay}
 abbrev pub changes_of : List Placed → List ChangeOfRow
 changes_of cs = flat_map (λ c. c.set) cs
 
--- the image that a change leaves
-abbrev pub image_of : Change → Option RowImage
-image_of (Put image) = Some image
-image_of Remove = None
+-- the image that a change of a row leaves, where the row had the given one before it: a touch leaves that one
+abbrev pub image_left : Change → Option RowImage → Option RowImage
+image_left (Put image) before = Some image
+image_left Remove before = None
+image_left Touch before = before
 
 -- the image of a row after the changes, where it had the given one before them
 abbrev pub image_after : List ChangeOfRow → RowId → Option RowImage → Option RowImage
 image_after [] row image = image
-image_after (p ∷ ps) row image = image_after ps row (if row_eq row p.0 then image_of p.1 else image)
+image_after (p ∷ ps) row image = image_after ps row (if row_eq row p.0 then image_left p.1 image else image)
 
 -- the image of a row after these epochs, if there is such a row
 abbrev pub snap_at : Epochs → RowId → Option RowImage

@@ -2,6 +2,7 @@
 pub mod Among
 pub mod Isolating
 pub mod Lookups
+pub mod Nets
 pub mod Placing
 pub mod Rising
 pub mod Rivals

@@ -2,12 +2,13 @@ use crate::set::WriteSet;
 use geo_base::{Duplicate, Epoch, Many, NoMemory};
 use std::alloc::Global;
 
-/// A transaction that asks to commit: the epoch on whose snapshot it ran, and what it changes.
+/// A transaction that asks to commit: the epoch on whose snapshot it ran, and the rows that it changes or
+/// touches.
 #[derive(Debug, Drop)]
 pub struct Candidate {
     /// The epoch on whose snapshot it ran: in a lawful batch, 1 to 64 epochs before the batch's.
     pub start: Epoch,
-    /// What it changes: in a lawful batch, at least one row.
+    /// What it does to its rows: in a lawful batch, to at least one.
     pub set: WriteSet,
 }
 

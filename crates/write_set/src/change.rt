@@ -1,3 +1,6 @@
+ghost use Rattle.std.specs.Prelude.{◌≡◌};
+ghost use Rattle.write_set.specs.Sets.{alters};
+
 use geo_base::{Duplicate, NoMemory, RowImage};
 use std::alloc::Global;
 
@@ -8,6 +11,20 @@ pub enum Change {
     Put(RowImage),
     /// There is no such row from now on.
     Remove,
+    /// The row stays as it is: the transaction claims it, so that no other one changes it meanwhile.
+    Touch,
+}
+
+impl Change {
+    /// Whether it puts or removes the row.
+    pub(crate) fn alters(&self) -> bool
+        ensures { result ≡ alters self.now }
+    {
+        match self {
+            Change::Put(_) | Change::Remove => true,
+            Change::Touch => false,
+        }
+    }
 }
 
 impl Duplicate for Change {
@@ -15,6 +32,7 @@ impl Duplicate for Change {
         match self {
             Change::Put(image) => Ok(Change::Put(image.copy(alloc)?)),
             Change::Remove => Ok(Change::Remove),
+            Change::Touch => Ok(Change::Touch),
         }
     }
 }

@@ -5,7 +5,8 @@ ghost use Rattle.geo_base.specs.declared.numbers.CandId.{CandId};
 ghost use Rattle.geo_base.specs.declared.outcome.Outcome.{Outcome};
 ghost use Rattle.geo_base.specs.declared.outcome.Outcome.TheVariants.{Beaten};
 ghost use Rattle.write_set.specs.Sets.{ChangeOfRow, Rises, has_row};
-ghost use Rattle.write_set.specs.Net.{IsNet, net_of};
+ghost use Rattle.write_set.specs.Net.{IsNet};
+ghost use Rattle.write_set.specs.inner.Nets.{net_of};
 ghost use Rattle.write_set.specs.declared.row_change.RowChange.{RowChange};
 ghost use Rattle.write_set.specs.Journal.{Journal, Epochs, Placed, IsJournal, batches_at, candidates_of, epochs_of, last_sealed, Extends};
 ghost use Rattle.write_set.specs.Merge.{contenders, id_of, is_beaten_on, last_change, verdict_of, verdicts};
@@ -14,7 +15,7 @@ ghost use Rattle.write_set.specs.Snapshot.{snap_at, snap_rows};
 ghost use Rattle.write_set.specs.Isolation.{Commits, IsSnapshotIsolated};
 ghost use Rattle.write_set.specs.Rules.{IsLastChange, IsVerdict};
 
-/// Two candidates of one epoch that commit and have a row in common are one.
+/// Two candidates of one epoch that commit and have a row in common, changed or touched, are one.
 pub fn committed_share_no_row()
     ensures { (journal : Journal) (epoch : ℕ) (c d : Placed) (row : RowId) → IsJournal journal →
         Commits journal epoch c → Commits journal epoch d →
@@ -33,7 +34,8 @@ pub fn sealed_epochs_stay()
     ensures sealed { (older newer : Journal) → Extends older newer → last_sealed older ≤ last_sealed newer }
 {}
 
-/// The committed transactions of every journal are a snapshot-isolated history.
+/// The committed transactions of every journal are a snapshot-isolated history, in which no row that one of
+/// them has, if only touched, is changed by another between its start and its epoch.
 pub fn journals_are_isolated()
     ensures { (journal : Journal) → IsJournal journal → IsSnapshotIsolated journal }
 {}
@@ -45,7 +47,7 @@ pub fn rows_are_the_snapshot()
 {}
 
 /// The net of a set and of changes after it is the one list that has each row once and in rising order, with
-/// what the last change of the row leaves, or with its change in the set where none of them is of the row.
+/// what the changes of the row leave, in their order, of what the set has of it.
 pub fn nets_have_last_changes()
     ensures { (set : List ChangeOfRow) (changes : List RowChange) (net : List ChangeOfRow) → Rises set →
         (net_of set changes ≡ net) ↔ IsNet set changes net }
@@ -75,8 +77,8 @@ pub fn names_are_of_one_candidate()
         id_of (place + 1) c ≡ id_of (place + 1) d → c ≡ d }
 {}
 
-/// The last change of a row, up to an epoch, is the last epoch in which a candidate that commits has it, or 0
-/// where there is none.
+/// The last change of a row, up to an epoch, is the last epoch in which a candidate that commits changes it,
+/// or 0 where there is none.
 pub fn last_changes_are_last()
     ensures { (journal : Journal) (upto : ℕ) (row : RowId) (epoch : ℕ) →
         (last_change (epochs_of journal upto) row ≡ epoch) ↔ IsLastChange journal upto row epoch }

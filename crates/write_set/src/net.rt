@@ -1,6 +1,7 @@
 //! What is left of a transaction's changes.
 ghost use Rattle.std.specs.Prelude.{◌≡◌, IfOk, IfErr, OnOk};
-ghost use Rattle.write_set.specs.Net.{left_by, with_left, net_of, IsNet, IsWithinLimits, HasCause};
+ghost use Rattle.write_set.specs.Net.{IsNet, TouchesKnown, HasTouchesOf, IsWithinLimits, HasNetCause};
+ghost use Rattle.write_set.specs.inner.Nets.{made, net_of};
 ghost use Rattle.write_set.specs.Sets.{Rises};
 
 use crate::change::Change;
@@ -16,18 +17,21 @@ use std::collections::BTreeMap;
 type ChangesByRow = BTreeMap<RowId, Change>;
 
 impl WriteSet {
-    /// The net of this set and of the changes after it, in their order: a row's last change stands, and a
-    /// row that the snapshot lacks and that was last removed isn't changed.
+    /// The net of this set and of the changes after it, in their order: a put or a removal takes the place of
+    /// what the set has of the row, a removal of a row that the snapshot lacks leaves nothing of it, and a
+    /// touch of a row that the set has leaves the set as it is. A row that is touched while the set lacks it
+    /// has to be in the snapshot.
     ///
     /// [`SetFault::TooManyRows`] exactly where the net has more than 1,024 rows, and else
     /// [`SetFault::TooLarge`] exactly where its spelled changes have more than 1,048,576 bytes. For n
     /// changes and a set of m rows the cost is n + m searches by halving, and one pass over the net.
-    #[tactic(auto, using(crate::proofs::Nets::is_net))]
+    #[tactic(auto, using(crate::proofs::Nets::is_net, crate::proofs::Nets::net_touches, crate::proofs::Nets::net_cause))]
     pub fn with(&self, alloc: Global, changes: Vec<RowChange>) -> Result<WriteSet, SetFault>
-        ensures net { IfOk result (λ set. set ≡ net_of self.now changes.items) }
-        ensures last { IfOk result (λ set. IsNet self.now changes.items set) }
-        ensures within { OnOk result (IsWithinLimits (net_of self.now changes.items)) }
-        ensures fault { IfErr result (λ e. HasCause e (net_of self.now changes.items)) }
+        requires { TouchesKnown self.now changes.items }
+        ensures net { IfOk result (IsNet self.now changes.items) }
+        ensures touches { IfOk result (HasTouchesOf self.now changes.items) }
+        ensures within { IfOk result IsWithinLimits }
+        ensures fault { IfErr result (HasNetCause self.now changes.items) }
     {
         let net = net_of(alloc, self.changes(), changes)?;
         if net.len() > MAX_SET_ROWS as usize {
@@ -72,12 +76,13 @@ fn by_row(alloc: Global, changes: &[(RowId, Change)]) -> Result<ChangesByRow, No
 
 /// Leaves in the net what this change of its row does.
 fn make_change(net: &mut ChangesByRow, change: RowChange) -> Result<(), NoMemory>
-    ensures { OnOk result (net.new.entries ≡ with_left change.row (left_by change.before change.change) net.old.entries) }
+    ensures { OnOk result (net.new.entries ≡ made change.row change.before change.change net.old.entries) }
 {
     match change.change {
         Change::Remove if !change.before => {
             net.remove(&change.row);
         }
+        Change::Touch if net.contains_key(&change.row) => {}
         made => {
             net.insert(change.row, made)?;
         }

@@ -8,10 +8,11 @@ ghost use Rattle.write_set.specs.Merge.{verdicts};
 ghost use Rattle.write_set.specs.Plain.{IsMergeOf};
 
 use crate::batch::Batch;
+use crate::changes::Changes;
 use crate::entrant::entrants;
 use crate::table::value_of;
-use crate::verdicts::{fresh_ones, judge};
-use crate::writes::{make_changes, note_changes, rows_of};
+use crate::verdicts::{fresh_ones, judge, last_change};
+use crate::writes::{make_changes, note_changes, rows_altered};
 use geo_base::{Epoch, NoMemory, Outcome, RowId, RowImage};
 use std::alloc::Global;
 use std::marker::Model;
@@ -76,7 +77,7 @@ impl Plain {
         let changes = self.changes.as_slice();
         let fresh = fresh_ones(self.alloc, changes, all.as_slice())?;
         let judged = judge(self.alloc, changes, epoch, fresh.as_slice(), all.as_slice())?;
-        let changed = rows_of(self.alloc, judged.writes.as_slice())?;
+        let changed = rows_altered(self.alloc, judged.writes.as_slice())?;
         self.rows.reserve(judged.writes.len())?;
         self.changes.reserve(changed.len())?;
         make_changes(&mut self.rows, judged.writes);
@@ -114,6 +115,17 @@ impl Plain {
             Some(found) => Some((&found.0, &found.1)),
             None => None,
         }
+    }
+}
+
+/// The last changes of the epochs merged.
+impl Changes for Plain {
+    ghost use Rattle.write_set.specs.Plain.{last_in};
+
+    ghost last = { λ p. last_in p.changes };
+
+    fn last_change(&self, row: &RowId) -> Epoch {
+        last_change(self.changes.as_slice(), row)
     }
 }
 

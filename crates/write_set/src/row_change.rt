@@ -1,7 +1,7 @@
 use crate::change::Change;
 use geo_base::RowId;
 
-/// A change that a transaction makes to a row.
+/// What a transaction does to a row.
 #[derive(Debug, Drop)]
 pub struct RowChange {
     /// The row.

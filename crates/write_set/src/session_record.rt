@@ -3,7 +3,7 @@ use geo_base::{Duplicate, Epoch, NoMemory};
 use std::alloc::Global;
 
 /// A transaction of a session, made by some lines of a script: the epoch on whose snapshot it ran, and
-/// what it changes.
+/// what it does to its rows.
 #[derive(Debug, Drop)]
 pub struct Record {
     /// The number of the session in its region, from 0 to 63.
@@ -14,7 +14,7 @@ pub struct Record {
     pub last: u32,
     /// The epoch on whose snapshot it ran, from 0.
     pub start: Epoch,
-    /// What it changes.
+    /// What it does to its rows.
     pub set: WriteSet,
 }
 

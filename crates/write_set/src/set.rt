@@ -14,8 +14,8 @@ use geo_base::{Duplicate, NoMemory, RowId};
 use std::alloc::Global;
 use std::marker::Model;
 
-/// The changes of one transaction: at most 1,024 rows, each once, in rising order. Contracts see the
-/// list of the rows with their changes.
+/// What one transaction does to its rows: to at most 1,024, each once, in rising order. Contracts see the
+/// list of the rows with what is done to each.
 #[derive(Debug, Drop)]
 pub struct WriteSet {
     changes: Vec<(RowId, Change)>,
@@ -35,7 +35,7 @@ impl Model for WriteSet {
 }
 
 impl WriteSet {
-    /// The set that changes no row.
+    /// The set without rows.
     #[tactic(auto, using(crate::proofs::Rising::no_changes))]
     pub fn empty(alloc: Global) -> WriteSet
         ensures { result ≡ [] }
@@ -45,8 +45,8 @@ impl WriteSet {
         }
     }
 
-    /// The set that changes this row alone: for a transaction whose one change is known to be left, as a
-    /// put. Where the row may be one that the snapshot lacks and is removed, take [`WriteSet::with`].
+    /// The set of this row alone: for a transaction whose one change is known to be left, as a put. Where the row may be one that the snapshot lacks and is removed, take
+    /// [`WriteSet::with`].
     pub fn one(alloc: Global, row: RowId, change: Change) -> Result<WriteSet, NoMemory>
         ensures { IfOk result (λ set. set ≡ (row, change) ∷ []) }
     {
@@ -89,7 +89,7 @@ impl WriteSet {
         }
     }
 
-    /// How many rows are changed.
+    /// How many rows there are, touched ones included.
     pub fn count(&self) -> u32
         ensures value { result ≡ length self.now }
         ensures few { result ≤ MAX_SET_ROWS }

@@ -7,7 +7,7 @@ use std::alloc::{AllocError, AllocFailed};
 /// Why changes make no write set.
 #[derive(Clone, Copy, Debug, PartialEq, Eq)]
 pub enum SetFault {
-    /// They leave more than [`geo_base::limits::MAX_SET_ROWS`] rows changed.
+    /// They leave more than [`geo_base::limits::MAX_SET_ROWS`] rows changed or touched.
     TooManyRows,
     /// They leave no more rows than that, but their spellings have more than
     /// [`geo_base::limits::MAX_SET_BYTES`] bytes.

@@ -37,7 +37,7 @@ fn change_size(row: &RowId, change: &Change) -> u64
 {
     match change {
         Change::Put(image) => 2 + cells_size(image.cells()),
-        Change::Remove => 2 + cells_size(row.key.cells()),
+        Change::Remove | Change::Touch => 2 + cells_size(row.key.cells()),
     }
 }
 

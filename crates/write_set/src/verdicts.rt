@@ -4,7 +4,7 @@ ghost use Rattle.std.specs.Option.{option_copied};
 ghost use Rattle.write_set.specs.Sets.{has_row, Rises};
 ghost use Rattle.write_set.specs.Merge.{wins, is_fresh, first_changed};
 ghost use Rattle.write_set.specs.inner.Entrants.{placed, fresh_of, takes_row, loses_row, is_better, keeper_of, first_lost, lost_or_committed, outcome_of, writes_of};
-ghost use Rattle.write_set.specs.inner.LastChanges.{last_in};
+ghost use Rattle.write_set.specs.Plain.{last_in};
 
 use crate::change::Change;
 use crate::entrant::Entrant;
@@ -14,14 +14,14 @@ use geo_base::{CandId, Claim, Duplicate, Epoch, NoMemory, Outcome, RowId, beats}
 use std::alloc::Global;
 
 /// The last epoch that changed the row, or 0.
-fn last_change(changes: &[(RowId, Epoch)], row: &RowId) -> Epoch
+pub(crate) fn last_change(changes: &[(RowId, Epoch)], row: &RowId) -> Epoch
     requires { Rises changes.now }
     ensures { result ≡ last_in changes.now row.now }
 {
     value_of(changes, row).copied().unwrap_or(0)
 }
 
-/// Whether the candidate changes the row.
+/// Whether the candidate has the row, changed or touched.
 fn has_row(row: &RowId, c: &Entrant) -> bool
     ensures { let set = (placed c.now).set in result ≡ has_row row.now set }
 {
@@ -45,7 +45,7 @@ fn claim_of(c: &Entrant) -> Claim
     }
 }
 
-/// Whether no row of the candidate was changed after its start.
+/// Whether no row of the candidate, changed or touched by it, was changed after its start.
 fn is_fresh(changes: &[(RowId, Epoch)], c: &Entrant) -> bool
     requires { Rises changes.now }
     ensures { result ≡ is_fresh (last_in changes.now) (placed c.now) }

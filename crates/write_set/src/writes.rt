@@ -1,9 +1,9 @@
-//! What an epoch leaves: its writes in the table of rows, and its number at each row that it changed.
+//! What an epoch leaves: its puts and removals in the table of rows, and its number at each row that they
+//! change.
 ghost use Rattle.std.specs.Prelude.{◌≡◌, ◌+◌, ◌<◌, ◌≤◌, IfOk, length, vec_len};
-ghost use Rattle.std.specs.Map.{keys_of};
 ghost use Rattle.std.specs.Vec.{vec_capacity};
 ghost use Rattle.write_set.specs.Overlay.{changed, overlay};
-ghost use Rattle.write_set.specs.inner.LastChanges.{noted};
+ghost use Rattle.write_set.specs.inner.LastChanges.{noted, rows_altered};
 ghost use Rattle.write_set.specs.Sets.{Rises};
 
 use crate::change::Change;
@@ -34,16 +34,22 @@ fn make_change(rows: &mut Vec<(RowId, RowImage)>, row: RowId, change: Change)
     match change {
         Change::Put(image) => put_value(rows, row, image),
         Change::Remove => remove_value(rows, &row),
+        Change::Touch => {}
     }
 }
 
-/// Copies of the rows of the changes.
-pub(crate) fn rows_of(alloc: Global, writes: &[(RowId, Change)]) -> Result<Vec<RowId>, NoMemory>
-    ensures { IfOk result (λ rows. rows.items ≡ keys_of writes.now) }
+/// Copies of the rows that the changes put or remove.
+pub(crate) fn rows_altered(
+    alloc: Global,
+    writes: &[(RowId, Change)],
+) -> Result<Vec<RowId>, NoMemory>
+    ensures { IfOk result (λ rows. rows.items ≡ rows_altered writes.now) }
 {
     let mut rows = Vec::with_capacity(alloc, writes.len())?;
-    for (row, _) in writes {
-        rows.push(row.copy(alloc)?)?;
+    for (row, change) in writes {
+        if change.alters() {
+            rows.push(row.copy(alloc)?)?;
+        }
     }
     Ok(rows)
 }

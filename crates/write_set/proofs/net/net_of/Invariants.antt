@@ -1,6 +1,6 @@
 use Rattle.std.proofs.Common.{◌≡◌}
 use Rattle.std.specs.Vec.Iter.{into_iter_items}
-use Rattle.write_set.specs.Net.{net_of}
+use Rattle.write_set.specs.inner.Nets.{net_of}
 use Rattle.write_set.proofs.net.net_of.Given as goal
 
 -- the changes so far are made: the others make of the net what all make of the set

@@ -1,6 +1,6 @@
 use Rattle.std.proofs.Common.{◌≡◌, map, take}
 use Rattle.write_set.specs.inner.Entrants.{placed, outcome_of, writes_of}
-use Rattle.write_set.specs.inner.LastChanges.{last_in}
+use Rattle.write_set.specs.Plain.{last_in}
 use Rattle.write_set.proofs.verdicts.judge.Given as goal
 
 -- the candidates so far are judged

@@ -1,10 +1,9 @@
 use Rattle.std.proofs.Common.{◌≡◌, ◌+◌, map, sym, ap, subst, ◌∙◌, arith}
-use Rattle.std.specs.Map.{keys_of}
 use Rattle.write_set.specs.Journal.{candidates_of}
 use Rattle.write_set.specs.Overlay.{overlay}
 use Rattle.write_set.specs.inner.Entrants.{placed, fresh_of, outcome_of, writes_of}
-use Rattle.write_set.specs.Plain.{Merged, IsMergeOf}
-use Rattle.write_set.specs.inner.LastChanges.{last_in, noted}
+use Rattle.write_set.specs.Plain.{Merged, IsMergeOf, last_in}
+use Rattle.write_set.specs.inner.LastChanges.{noted, rows_altered}
 use Rattle.write_set.proofs.Merging.{few_candidates, verdicts_are, merged}
 use Rattle.write_set.proofs.plain.Plain.step.Goals as goal
 
@@ -46,6 +45,6 @@ returns-clause-merged c epochs merge =
     c.in_ok-judged.ensures.writes
     ∙ (λ i. writes_of (outcome_of (last_in (c.as_slice-changes.ensures.value i)) (number i) (c.as_slice-2.ensures.value i)) (entered_again i)) in
     let rows : new.rows ≡ overlay old.rows writes = c.make_changes.ensures.items ∙ ap (λ l. overlay l writes) c.reserve.ensures.items in
-    let rows_of_writes : c.in_ok-changed.changed.items ≡ keys_of writes = c.in_ok-changed.ensures ∙ ap keys_of c.as_slice-4.ensures.value in
-    let changes : new.changes ≡ noted (old.epoch + 1) old.changes (keys_of writes) = c.note_changes.ensures.items ∙ (λ i. noted (number i) (c.reserve-2.ensures.items i) (rows_of_writes i)) in
+    let rows_of_writes : c.in_ok-changed.changed.items ≡ rows_altered writes = c.in_ok-changed.ensures ∙ ap rows_altered c.as_slice-4.ensures.value in
+    let changes : new.changes ≡ noted (old.epoch + 1) old.changes (rows_altered writes) = c.note_changes.ensures.items ∙ (λ i. noted (number i) (c.reserve-2.ensures.items i) (rows_of_writes i)) in
     merged epochs old before all fresh fresh_is new writes writes_is number rows changes
