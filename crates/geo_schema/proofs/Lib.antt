@@ -3,3 +3,4 @@ pub mod KeyOfRow
 pub mod Names
 pub mod OneFault
 pub mod Repeats
+pub mod Search

@@ -7,7 +7,7 @@ use Rattle.geo_schema.specs.declared.fault.CellFault.{CellFault}
 use Rattle.geo_schema.specs.declared.fault.SchemaFault.{SchemaFault}
 use Rattle.geo_schema.specs.declared.table.TableDef.{TableDef}
 use Rattle.geo_schema.specs.Rows.{Suits, IsCause, IsRow, IsRowFault}
-use Rattle.geo_schema.specs.Schemas.{IsSchema, IsSchemaFault}
+use Rattle.geo_schema.specs.Schemas.{Tables, IsSchema, IsSchemaFault}
 use Rattle.geo_schema.specs.inner.Rows.{cell_fault, row_fault}
 use Rattle.geo_schema.specs.inner.Schemas.{schema_fault}
 use Rattle.geo_schema.specs.laws.Fits.{suits, suits_faultless, cause_found, found_cause, row_fits, fit_rows, is_row_fault, row_fault_is}
@@ -58,14 +58,14 @@ pub one_row_fault : (table : TableDef) (cells : List Cell) (a b : CellFault) →
 one_row_fault table cells =
     one (row_fault table cells) (IsRow table cells) (IsRowFault table cells) (row_fits table cells) (is_row_fault table cells) (fit_rows table cells) (row_fault_is table cells)
 
-pub schema_or_fault : (tables : List TableDef) → IsSchema tables ⊎ ((why : SchemaFault) × IsSchemaFault tables why)
+pub schema_or_fault : (tables : Tables) → IsSchema tables ⊎ ((why : SchemaFault) × IsSchemaFault tables why)
 schema_or_fault tables =
     either (schema_fault tables) (IsSchema tables) (IsSchemaFault tables) (is_schema tables) (is_schema_fault tables) (no_fault tables) (schema_fault_is tables)
 
-pub schema_no_fault : (tables : List TableDef) (why : SchemaFault) → IsSchema tables → ¬ IsSchemaFault tables why
+pub schema_no_fault : (tables : Tables) (why : SchemaFault) → IsSchema tables → ¬ IsSchemaFault tables why
 schema_no_fault tables =
     not_both (schema_fault tables) (IsSchema tables) (IsSchemaFault tables) (is_schema tables) (is_schema_fault tables) (no_fault tables) (schema_fault_is tables)
 
-pub one_schema_fault : (tables : List TableDef) (a b : SchemaFault) → IsSchemaFault tables a → IsSchemaFault tables b → a ≡ b
+pub one_schema_fault : (tables : Tables) (a b : SchemaFault) → IsSchemaFault tables a → IsSchemaFault tables b → a ≡ b
 one_schema_fault tables =
     one (schema_fault tables) (IsSchema tables) (IsSchemaFault tables) (is_schema tables) (is_schema_fault tables) (no_fault tables) (schema_fault_is tables)

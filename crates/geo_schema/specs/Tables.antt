@@ -1,5 +1,5 @@
 -- The rules of tables.
-use Rattle.std.specs.Prelude.{ℕ, ◌≤◌, ◌<◌, ⊤, Bool, nat_eq, List, length}
+use Rattle.std.specs.Prelude.{ℕ, ◌≤◌, ◌<◌, ⊤, Bool, false, nat_eq, List, [], length, slice_index_or}
 use Rattle.std.specs.List.{All}
 use Rattle.geo_base.specs.declared.limits.TheConstants.{MAX_TEXT_BYTES, MAX_KEY_CELLS, MAX_COLUMNS, MAX_INDEXES, MAX_INDEX_COLUMNS, MAX_NAME_BYTES}
 use Rattle.geo_base.specs.Order.{text_eq}
@@ -48,15 +48,30 @@ pub record IsIndex (columns : ℕ) (index : IndexDef) : Type 0 where
   pub name : IsName index.name
   pub places : ArePlaces MAX_INDEX_COLUMNS columns index.columns
 
--- a table has a name; 1 to 32 columns, of which no two have one name; a key of 1 to 4 places of columns;
--- and at most 4 indexes, of which no two have one name
-pub record IsTable (table : TableDef) : Type 0 where
-  pub name : IsName table.name
+-- what rows need of a table: 1 to 32 columns, and a key of 1 to 4 places of columns
+pub record TakesRows (table : TableDef) : Type 0 where
   pub some : 1 ≤ length table.columns
   pub few : length table.columns ≤ MAX_COLUMNS
   pub columns : All IsColumn table.columns
-  pub apart : AreApart same_column table.columns
   pub key : ArePlaces MAX_KEY_CELLS (length table.columns) table.key
+
+-- a table has a name; what rows need; of its columns no two have one name; and at most 4 indexes, of which no two
+-- have one name
+pub record IsTable (table : TableDef) : Type 0 where
+  pub name : IsName table.name
+  pub rows : TakesRows table
+  pub apart : AreApart same_column table.columns
   pub few_indexes : length table.indexes ≤ MAX_INDEXES
   pub indexes : All (IsIndex (length table.columns)) table.indexes
   pub indexes_apart : AreApart same_index table.indexes
+
+-- a table and a column with nothing, which stand for those past the last one
+abbrev pub no_table : TableDef
+no_table = record { name = []; columns = []; key = []; indexes = [] }
+
+abbrev pub no_column : ColumnDef
+no_column = record { name = []; kind = kind.Int; not_null = false }
+
+-- the table at a place of a list
+abbrev pub table_in : List TableDef → ℕ → TableDef
+table_in tables place = slice_index_or tables place no_table

@@ -16,7 +16,7 @@ pub enum CellFault {
     TextTooLong(u8),
 }
 
-/// Why tables are no schema.
+/// Why tables and uniques are no schema.
 #[derive(Debug, Drop, PartialEq, Eq)]
 pub enum SchemaFault {
     /// There are more than [`geo_base::limits::MAX_TABLES`].
@@ -25,7 +25,11 @@ pub enum SchemaFault {
     Twice(Txt),
     /// The first table that breaks a rule of tables, where there are not too many.
     BadTable(TableNo),
-    /// There was no memory for the name in [`SchemaFault::Twice`]. It says nothing of the tables.
+    /// The first unique that breaks a rule of uniques, by its place from 0 on, where nothing is wrong with the
+    /// tables that are shown. It is the 65th where there are too many and the first 64 are in order.
+    BadUnique(u8),
+    /// There was no memory for the name in [`SchemaFault::Twice`] or for a hidden table. It says nothing of
+    /// the tables and uniques.
     NoMemory,
 }
 

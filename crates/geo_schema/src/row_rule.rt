@@ -3,7 +3,7 @@ ghost use Rattle.std.specs.Prelude.{◌≡◌, ◌<◌, ◌≤◌, true, length,
 ghost use Rattle.std.specs.List.{All};
 ghost use Rattle.geo_base.specs.declared.limits.TheConstants.{MAX_COLUMNS};
 ghost use Rattle.geo_schema.specs.Rows.{is_too_long, is_in, Suits, IsCause, IsRow, key_cells};
-ghost use Rattle.geo_schema.specs.Tables.{IsTable};
+ghost use Rattle.geo_schema.specs.Tables.{TakesRows};
 ghost use Rattle.geo_schema.specs.inner.Rows.{cell_fault, row_fault};
 
 use crate::column::{ColumnDef, Kind};
@@ -77,7 +77,7 @@ pub(crate) fn row_fault(table: &TableDef, cells: &[Cell]) -> Option<CellFault>
 /// The key of a row that fits the table.
 #[tactic(auto, unfolding(crate::specs::Rows::key_cells))]
 pub(crate) fn key_of_row(alloc: Global, table: &TableDef, cells: &[Cell]) -> Result<Key, NoMemory>
-    requires rules { IsTable table.now }
+    requires rules { TakesRows table.now }
     requires fits { IsRow table.now cells.now }
     ensures { IfOk result (λ key. key ≡ key_cells table.now cells.now) }
 {

@@ -1,92 +1,161 @@
-ghost use Rattle.std.specs.Prelude.{◌≡◌, ◌≤◌, ◌<◌, ◌⊎◌, length, IfOk, IfErr, IfSome, MatchResult};
+ghost use Rattle.std.specs.Prelude.{◌≡◌, ◌≤◌, ◌<◌, ◌⊎◌, None, Some, length, IfOk, IfErr, IfSome, MatchResult};
 ghost use Rattle.std.specs.List.{slice_get};
-ghost use Rattle.std.specs.Option.{option_copied};
+ghost use Rattle.std.specs.Option.{option_copied, is_some};
 ghost use Rattle.geo_base.specs.declared.limits.TheConstants.{MAX_TABLES};
+ghost use Rattle.geo_schema.specs.declared.limits.TheConstants.{MAX_UNIQUES, FIRST_HIDDEN};
 ghost use Rattle.geo_schema.specs.Rows.{IsRow, IsRowFault, key_cells};
-ghost use Rattle.geo_schema.specs.Tables.{IsTable};
-ghost use Rattle.geo_schema.specs.Schemas.{IsSchema, IsSchemaFault, table_at, number_of};
+ghost use Rattle.geo_schema.specs.Schemas.{IsSchema, IsSchemaFault, IsTableNo, all_of, shown_only, hidden_tables, table_numbered, table_at, number_of};
+ghost use Rattle.geo_schema.specs.Tables.{IsTable, TakesRows};
 ghost use Rattle.geo_schema.specs.inner.Schemas.{schema_fault};
 
 use crate::alike::first_repeat;
 use crate::fault::{CellFault, SchemaFault};
+use crate::hidden::hidden_tables;
+use crate::limits::FIRST_HIDDEN;
 use crate::row_rule::{key_of_row, row_fault};
 use crate::table::TableDef;
 use crate::table_rule::first_bad_table;
+use crate::unique::UniqueDef;
+use crate::unique_rule::first_bad_unique;
 use geo_base::limits::MAX_TABLES;
 use geo_base::{Cell, Duplicate, Key, NoMemory, RowImage, TableNo, Txt, copy_items};
 use std::alloc::Global;
 use std::marker::Model;
 
-/// The tables of a database, which break no rule of tables and have names of their own.
+/// The tables of a database, which break no rule of tables and have names of their own, and its uniques,
+/// which break none of theirs. Each unique has a hidden table. That of the first has the number
+/// [`FIRST_HIDDEN`], and so on.
 #[derive(Debug, Drop)]
 pub struct Schema {
-    tables: Vec<TableDef>,
+    shown: Vec<TableDef>,
+    uniques: Vec<UniqueDef>,
+    hidden: Vec<TableDef>,
 }
 
 impl Model for Schema {
-    ghost use Rattle.std.specs.Prelude.{List};
-    ghost use Rattle.geo_schema.specs.declared.table.TableDef.{TableDef};
-    ghost use Rattle.geo_schema.specs.Schemas.{IsSchema};
+    ghost use Rattle.std.specs.Prelude.{◌≡◌};
+    ghost use Rattle.geo_schema.specs.Schemas.{Tables, IsSchema, all_of, hidden_tables};
 
-    ghost Value = { List TableDef };
+    ghost Value = { Tables };
 
-    ghost view = { λ s. s.tables.items };
+    ghost view = { λ s. all_of s.shown.items s.uniques.items };
 
-    ghost invariant = { λ s. IsSchema s.tables.items };
+    ghost invariant = { λ s. IsSchema (all_of s.shown.items s.uniques.items) × (s.hidden.items ≡ hidden_tables (all_of s.shown.items s.uniques.items)) };
 }
 
 impl Schema {
-    /// The schema of these tables. Compares the names of each two tables, and within a table those of
-    /// each two columns, key places and indexes. Takes memory for the name in [`SchemaFault::Twice`] alone.
-    #[tactic(auto, using(crate::specs::laws::Schemas::is_schema, crate::specs::laws::Schemas::is_schema_fault))]
+    /// The schema of these tables, without uniques. Compares the names of each two tables, and within a
+    /// table those of each two columns, key places and indexes. Takes memory for the name in
+    /// [`SchemaFault::Twice`] alone.
     pub fn new(alloc: Global, tables: Vec<TableDef>) -> Result<Schema, SchemaFault>
-        ensures schema { IfOk result (λ s. (s ≡ tables.items) × IsSchema tables.items) }
-        ensures fault { IfErr result (λ e. (e ≡ SchemaFault.NoMemory) ⊎ IsSchemaFault tables.items e) }
+        ensures schema { IfOk result (λ s. (s ≡ shown_only tables.items) × IsSchema (shown_only tables.items)) }
+        ensures fault { IfErr result (λ e. (e ≡ SchemaFault.NoMemory) ⊎ IsSchemaFault (shown_only tables.items) e) }
     {
-        let tables = faultless(alloc, tables)?;
-        Ok(Schema { tables })
+        Schema::with_unique(alloc, tables, Vec::new(alloc))
     }
 
-    /// The table with the number.
-    #[tactic(auto, using(crate::proofs::KeptRules::table_got))]
+    /// The schema of these tables and uniques. Compares as [`Schema::new`] does, and the name of each
+    /// unique with those of all tables, indexes and earlier uniques. Takes memory for the hidden tables.
+    #[tactic(auto, using(crate::specs::laws::Schemas::is_schema_fault, crate::proofs::KeptRules::columns_kept))]
+    pub fn with_unique(
+        alloc: Global,
+        tables: Vec<TableDef>,
+        uniques: Vec<UniqueDef>,
+    ) -> Result<Schema, SchemaFault>
+        ensures schema { IfOk result (λ s. (s ≡ all_of tables.items uniques.items) × IsSchema (all_of tables.items uniques.items)) }
+        ensures fault { IfErr result (λ e. (e ≡ SchemaFault.NoMemory) ⊎ IsSchemaFault (all_of tables.items uniques.items) e) }
+    {
+        let shown = tables.as_slice();
+        let lines = uniques.as_slice();
+        faultless(alloc, shown, lines)?;
+        let hidden = hidden_tables(alloc, shown, lines)?;
+        Ok(Schema {
+            shown: tables,
+            uniques,
+            hidden,
+        })
+    }
+
+    /// The table with the number, also a hidden one.
+    #[tactic(auto, using(crate::specs::laws::Numbers::from_shown, crate::specs::laws::Numbers::from_hidden, crate::specs::laws::Numbers::rows_got, crate::specs::laws::Numbers::rules_got))]
     pub fn table(&self, no: TableNo) -> Option<&TableDef>
-        ensures table { option_copied result ≡ slice_get self.now no }
+        ensures table { option_copied result ≡ table_numbered self.now no }
+        ensures rows { IfSome result (λ table. TakesRows table.now) }
+        ensures shown { no < FIRST_HIDDEN → IfSome result (λ table. IsTable table.now) }
+        ensures schema { IsSchema self.now }
+    {
+        if no < FIRST_HIDDEN {
+            self.shown_at(no)
+        } else {
+            self.hidden_at(no - FIRST_HIDDEN)
+        }
+    }
+
+    #[tactic(auto, using(crate::specs::laws::Numbers::shown_got))]
+    fn shown_at(&self, place: u8) -> Option<&TableDef>
+        ensures table { option_copied result ≡ slice_get self.now.shown place }
         ensures rules { IfSome result (λ table. IsTable table.now) }
         ensures schema { IsSchema self.now }
     {
-        self.tables.get(no as usize)
+        item_at(self.shown.as_slice(), place)
     }
 
-    fn table_at(&self, no: TableNo) -> &TableDef
-        requires { no < length self.now }
-        ensures table { result.now ≡ table_at self.now no }
-        ensures rules { IsTable result.now }
+    fn hidden_at(&self, place: u8) -> Option<&TableDef>
+        ensures table { option_copied result ≡ slice_get (hidden_tables self.now) place }
+        ensures rows { IfSome result (λ table. TakesRows table.now) }
+        ensures schema { IsSchema self.now }
     {
-        &self.tables[no as usize]
+        item_at(self.hidden.as_slice(), place)
     }
 
-    /// The number of the table with the name. Compares it with each table's.
+    /// Whether there is a table with the number, be it a hidden one.
+    pub fn has_table(&self, no: TableNo) -> bool
+        ensures { result ≡ is_some (table_numbered self.now no) }
+    {
+        self.table(no).is_some()
+    }
+
+    #[tactic(auto, using(crate::specs::laws::Numbers::takes_rows, crate::specs::laws::Numbers::table_is))]
+    fn table_at(&self, no: TableNo) -> &TableDef
+        requires { IsTableNo self.now no }
+        ensures table { result.now ≡ table_at self.now no }
+        ensures rows { TakesRows result.now }
+    {
+        self.table(no).unwrap()
+    }
+
+    /// The number of the table with the name, of those that are shown. Compares it with each one's.
     #[tactic(auto, using(crate::specs::laws::Rules::few_tables))]
     pub fn find(&self, name: &Txt) -> Option<TableNo>
-        ensures { result ≡ number_of self.now name.now }
+        ensures { result ≡ number_of self.now.shown name.now }
     {
-        let place = place_of(self.tables.as_slice(), name)?;
+        let place = place_of(self.shown.as_slice(), name)?;
         Some(place as TableNo)
     }
 
-    /// How many tables there are.
+    /// How many tables are shown. Hidden ones are left out.
     #[tactic(auto, using(crate::specs::laws::Rules::few_tables))]
     pub fn count(&self) -> u8
-        ensures count { result ≡ length self.now }
-        ensures few { length self.now ≤ MAX_TABLES }
+        ensures count { result ≡ length self.now.shown }
+        ensures few { length self.now.shown ≤ MAX_TABLES }
         ensures schema { IsSchema self.now }
     {
-        self.tables.len() as u8
+        self.shown.len() as u8
+    }
+
+    /// The uniques, of which each has the hidden table whose number is [`FIRST_HIDDEN`] and its place.
+    #[tactic(auto, using(crate::specs::laws::Rules::few_uniques))]
+    pub fn uniques(&self) -> &[UniqueDef]
+        ensures uniques { result.now ≡ self.now.uniques }
+        ensures few { length self.now.uniques ≤ MAX_UNIQUES }
+        ensures schema { IsSchema self.now }
+    {
+        self.uniques.as_slice()
     }
 
     /// The key of a row that fits the table.
     pub fn key_of(&self, alloc: Global, table: TableNo, row: &RowImage) -> Result<Key, NoMemory>
-        requires table { table < length self.now }
+        requires table { IsTableNo self.now table }
         requires row { IsRow (table_at self.now table) row.now }
         ensures { IfOk result (λ key. key ≡ key_cells (table_at self.now table) row.now) }
     {
@@ -97,7 +166,7 @@ impl Schema {
     /// a step for each cell and key place.
     #[tactic(auto, using(crate::specs::laws::Fits::row_fits, crate::specs::laws::Fits::is_row_fault))]
     pub fn check_row(&self, table: TableNo, cells: &[Cell]) -> Result<(), CellFault>
-        requires { table < length self.now }
+        requires { IsTableNo self.now table }
         ensures row { IfOk result (λ _. IsRow (table_at self.now table) cells.now) }
         ensures fault { IfErr result (λ e. IsRowFault (table_at self.now table) cells.now e) }
     {
@@ -110,9 +179,22 @@ impl Schema {
 
 impl Duplicate for Schema {
     fn copy(&self, alloc: Global) -> Result<Schema, NoMemory> {
-        let tables = copy_items(alloc, self.tables.as_slice())?;
-        Ok(Schema { tables })
+        let shown = copy_items(alloc, self.shown.as_slice())?;
+        let uniques = copy_items(alloc, self.uniques.as_slice())?;
+        let hidden = copy_items(alloc, self.hidden.as_slice())?;
+        Ok(Schema {
+            shown,
+            uniques,
+            hidden,
+        })
     }
+}
+
+/// The table at the place, if there is one.
+fn item_at(tables: &[TableDef], place: u8) -> Option<&TableDef>
+    ensures { option_copied result ≡ slice_get tables.now place }
+{
+    tables.get(place as usize)
 }
 
 /// The place of the first table with the name.
@@ -123,21 +205,24 @@ fn place_of(tables: &[TableDef], name: &Txt) -> Option<usize>
     tables.iter().position(|table| table.name == *name)
 }
 
-/// The tables, if they are those of a schema.
+/// Whether the tables and uniques are those of a schema, and else why not.
 #[tactic(auto, unfolding(crate::specs::inner::Schemas::schema_fault))]
-fn faultless(alloc: Global, tables: Vec<TableDef>) -> Result<Vec<TableDef>, SchemaFault>
+fn faultless(alloc: Global, tables: &[TableDef], uniques: &[UniqueDef]) -> Result<(), SchemaFault>
     ensures { MatchResult result
-        (λ kept. (kept.items ≡ tables.items) × (schema_fault tables.items ≡ None))
-        (λ e. (e ≡ SchemaFault.NoMemory) ⊎ (schema_fault tables.items ≡ Some e)) }
+        (λ _. schema_fault (all_of tables.now uniques.now) ≡ None)
+        (λ e. (e ≡ SchemaFault.NoMemory) ⊎ (schema_fault (all_of tables.now uniques.now) ≡ Some e)) }
 {
     if tables.len() > MAX_TABLES {
         return Err(SchemaFault::TooManyTables);
     }
-    if let Some(place) = first_bad_table(tables.as_slice()) {
+    if let Some(place) = first_bad_table(tables) {
         return Err(SchemaFault::BadTable(place as TableNo));
     }
-    if let Some(table) = first_repeat(tables.as_slice()) {
+    if let Some(table) = first_repeat(tables) {
         return Err(SchemaFault::Twice(table.name.copy(alloc)?));
     }
-    Ok(tables)
+    if let Some(place) = first_bad_unique(tables, uniques) {
+        return Err(SchemaFault::BadUnique(place as u8));
+    }
+    Ok(())
 }

@@ -12,7 +12,7 @@ use geo_base::limits::{
     MAX_COLUMNS, MAX_INDEX_COLUMNS, MAX_INDEXES, MAX_KEY_CELLS, MAX_NAME_BYTES, MAX_TEXT_BYTES,
 };
 
-fn is_name(name: &Txt) -> bool
+pub(crate) fn is_name(name: &Txt) -> bool
     ensures { result ≡ is_name name.now }
 {
     let name = name.text();
@@ -53,7 +53,7 @@ fn each_is_place(columns: usize, places: &[u8]) -> bool
 }
 
 #[tactic(auto, unfolding(crate::specs::inner::Tables::are_places))]
-fn are_places(most: usize, columns: usize, places: &[u8]) -> bool
+pub(crate) fn are_places(most: usize, columns: usize, places: &[u8]) -> bool
     ensures { result ≡ are_places most columns places.now }
 {
     !places.is_empty()

@@ -1,4 +1,4 @@
-//! Tests of schemas, of the rows of their tables, and of ranges of keys.
+//! Tests of schemas, of the rows of their tables, shown and hidden, and of ranges of keys.
 //!
 //! They use only what `geo_schema` offers. What is wanted is worked by hand from the rules of tables and rows.
 #![tactic(auto)]
@@ -11,3 +11,5 @@ mod rows;
 mod schemas;
 #[cfg(test)]
 mod tables;
+#[cfg(test)]
+mod uniques;

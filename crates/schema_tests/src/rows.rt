@@ -23,7 +23,7 @@ fn told(
     words: &str,
 ) -> Result<Option<CellFault>, Fail> {
     let cells = cells_of(alloc, words)?;
-    if no >= schema.count() {
+    if !schema.has_table(no) {
         return Err("no table".into());
     }
     Ok(schema.check_row(no, &cells).err())
@@ -83,7 +83,7 @@ fn tables_are_found_by_names_and_numbers(rt: HostRuntime) -> Result<(), Fail> {
 /// Whether the cells are a row of people with this key.
 fn has_key(alloc: Global, schema: &Schema, words: &str, key: &str) -> Result<bool, Fail> {
     let row = RowImage::new(cells_of(alloc, words)?)?;
-    if schema.count() < 2 || schema.check_row(1, row.cells()).is_err() {
+    if !schema.has_table(1) || schema.check_row(1, row.cells()).is_err() {
         return Ok(false);
     }
     let wanted = cells_of(alloc, key)?;

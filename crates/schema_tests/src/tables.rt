@@ -3,8 +3,12 @@
 //! A column is its name, then `:` and its kind where that isn't a number: `truth`, or the most bytes of a
 //! text. A `!` behind it says that it isn't null. An index is its name, `:` and its places. A place is one
 //! digit. A name alone is the table of that name whose one column `k` is its key.
+//!
+//! Uniques have commas between them, and each is `NAME:TABLE:PLACES`, with its table's number.
 use geo_base::Txt;
-use geo_schema::{ColumnDef, ColumnList, IndexDef, IndexList, Kind, PlaceList, Schema, TableDef};
+use geo_schema::{
+    ColumnDef, ColumnList, IndexDef, IndexList, Kind, PlaceList, Schema, TableDef, UniqueDef,
+};
 use std::alloc::Global;
 use std::test::Fail;
 
@@ -91,4 +95,26 @@ pub fn tables_of(alloc: Global, text: &str) -> Result<Vec<TableDef>, Fail> {
 /// The schema of the tables of a text.
 pub fn schema_of(alloc: Global, text: &str) -> Result<Schema, Fail> {
     Ok(Schema::new(alloc, tables_of(alloc, text)?)?)
+}
+
+fn unique_of(alloc: Global, text: &str) -> Result<UniqueDef, Fail> {
+    let (name, rest) = text.split_once(':').ok_or("a unique without a table")?;
+    let (table, places) = rest.split_once(':').ok_or("a unique without columns")?;
+    let table = table.parse()?;
+    Ok(UniqueDef {
+        name: Txt::new(alloc, name)?,
+        table,
+        columns: places_of(alloc, places)?,
+    })
+}
+
+/// The uniques of a text; of no text, none.
+pub fn uniques_of(alloc: Global, text: &str) -> Result<Vec<UniqueDef>, Fail> {
+    let mut uniques = Vec::new(alloc);
+    if !text.is_empty() {
+        for part in text.split(',') {
+            uniques.push(unique_of(alloc, part)?)?;
+        }
+    }
+    Ok(uniques)
 }

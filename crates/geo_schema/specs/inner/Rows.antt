@@ -1,4 +1,4 @@
--- Inner: how the fault of a row is found.
+-- Inner: how the fault of a row is found. Inner words and proofs of crates above cite it.
 use Rattle.std.specs.Prelude.{ℕ, ◌+◌, ◌&&◌, ◌||◌, ◌==◌, if◌then◌else◌, Option, Some, None, List, [], ◌∷◌, length}
 use Rattle.std.specs.Option.{option_or}
 use Rattle.geo_base.specs.declared.cell.Cell.{Cell}

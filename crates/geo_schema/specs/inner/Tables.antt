@@ -1,4 +1,4 @@
--- Inner: how the rules of tables are tested.
+-- Inner: how the rules of tables are tested. Proofs of crates above cite it.
 use Rattle.std.specs.Prelude.{ℕ, Bool, true, not, ◌&&◌, nat_le, nat_lt, nat_eq, List, length}
 use Rattle.std.specs.List.{list_all}
 use Rattle.geo_base.specs.declared.limits.TheConstants.{MAX_TEXT_BYTES, MAX_KEY_CELLS, MAX_COLUMNS, MAX_INDEXES, MAX_INDEX_COLUMNS, MAX_NAME_BYTES}

@@ -16,7 +16,8 @@ use Rattle.geo_schema.specs.declared.fault.CellFault.TheVariants as fault
 use Rattle.geo_schema.specs.declared.table.TableDef.{TableDef}
 use Rattle.geo_schema.specs.Rows.{type_of, is_too_long, is_in, Suits, IsCause, IsRow, IsFirstCause, IsRowFault}
 use Rattle.geo_schema.specs.inner.Rows.{cell_fault, cells_fault, row_fault}
-use Rattle.geo_schema.specs.laws.Keys.{no_column, cell_faultless, row_count, row_cells}
+use Rattle.geo_schema.specs.Tables.{no_column}
+use Rattle.geo_schema.specs.laws.Keys.{cell_faultless, row_count, row_cells}
 
 -- ---- a cell
 

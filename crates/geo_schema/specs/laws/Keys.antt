@@ -5,13 +5,9 @@ use Rattle.std.proofs.lemmas.Bool.Decides.{nat_tests}
 use Rattle.geo_base.specs.declared.cell.Cell.{Cell}
 use Rattle.geo_base.specs.declared.cell.Cell.TheVariants as cell
 use Rattle.geo_schema.specs.declared.column.ColumnDef.{ColumnDef}
-use Rattle.geo_schema.specs.declared.column.Kind.TheVariants as kind
 use Rattle.geo_schema.specs.declared.table.TableDef.{TableDef}
+use Rattle.geo_schema.specs.Tables.{no_column}
 use Rattle.geo_schema.specs.inner.Rows.{cell_fault, cells_fault, row_fault}
-
--- a column for the place past the last one
-pub no_column : ColumnDef
-no_column = record { name = []; kind = kind.Int; not_null = false }
 
 pub or_none : {A : Type 0} (a b : Option A) → option_or a b ≡ None → (a ≡ None) × (b ≡ None)
 or_none None b h = (refl, h)

@@ -1,4 +1,4 @@
-use Rattle.geo_schema.proofs.Names.{columns_twice, indexes_twice, key_twice, index_places_twice, bad_table, tables_twice}
+use Rattle.geo_schema.proofs.Names.{columns_twice, indexes_twice, key_twice, index_places_twice, bad_table, tables_twice, bad_unique}
 use Rattle.geo_schema.proofs.laws.what_stands_twice_is_a_fault.Goals as goal
 
 pub returns-clause-columns : goal.returns-clause-columns
@@ -18,3 +18,6 @@ returns-clause-bad_table c = bad_table
 
 pub returns-clause-tables : goal.returns-clause-tables
 returns-clause-tables c = tables_twice
+
+pub returns-clause-uniques : goal.returns-clause-uniques
+returns-clause-uniques c = bad_unique
