@@ -6,7 +6,7 @@ use Rattle.sql_lex.specs.declared.token.TokenKind.{TokenKind}
 use Rattle.sql_lex.specs.declared.token.TokenKind.TheVariants as kind
 use Rattle.sql_parse.specs.inner.Kinds.{is_keyword}
 use Rattle.sql_parse.specs.Forms.{SelectForm, select_of}
-use Rattle.sql_parse.specs.inner.Reading.{◌>->◌, ◌>>◌, ◌<$>◌, pure, keyword, select, for_update, query_statement, query}
+use Rattle.sql_parse.specs.inner.Reading.{◌>>◌, ◌<$>◌, pure, keyword, select, for_update, query_statement, query}
 use Rattle.sql_parse.proofs.ExpressionLaws.{ExpressionLaws}
 use Rattle.sql_parse.proofs.ReaderParts.{Part}
 use Rattle.sql_parse.proofs.ReaderLaws.{IsReader, both, chained}

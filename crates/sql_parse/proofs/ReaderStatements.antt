@@ -1,6 +1,6 @@
 -- The reader of statements.
 use mathlib.Core.Path.{fun_ext}
-use Rattle.std.proofs.Common.{◌≡◌, ◌⊎◌, ℕ, List, [], ◌∷◌, ◌++◌, append-nil, Bool, true, false, Option, Some, None, refl, sym, ap, subst, inl, inr, true≢false}
+use Rattle.std.proofs.Common.{◌≡◌, ◌⊎◌, ℕ, List, [], ◌∷◌, append-nil, Bool, true, false, Option, Some, None, refl, sym, ap, subst, inl, inr, true≢false}
 use Rattle.sql_ast.specs.declared.statement.Statement.{Statement}
 use Rattle.sql_ast.specs.declared.statement.Statement.TheVariants as of_statement
 use Rattle.sql_lex.specs.declared.keyword.Keyword.{Keyword}
