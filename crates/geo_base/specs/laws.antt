@@ -1,4 +1,5 @@
 -- Laws, with their proofs, for the proofs of the crates above.
+pub mod Answers
 pub mod Keys
 pub mod Orders
 pub mod Results

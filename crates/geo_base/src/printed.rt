@@ -4,6 +4,7 @@ ghost use Rattle.geo_base.specs.Texts.{doubled, quoted, cell_text, commas, row_t
 
 use crate::cell::Cell;
 use crate::duplicate::NoMemory;
+use crate::txt::Txt;
 use std::fmt::Write;
 
 /// What has a text. A value that is put at the end of a text takes a step for each byte of its own.
@@ -54,6 +55,16 @@ fn print_quoted(out: &mut String, text: &str) -> Result<(), NoMemory>
     print_doubled(out, text)?;
     out.push_str("'")?;
     Ok(())
+}
+
+/// A text as it is, without quotes: so a name is written.
+impl Printed for Txt {
+    ghost text = { λ t. t };
+
+    fn print_to(&self, out: &mut String) -> Result<(), NoMemory> {
+        out.push_str(self.text())?;
+        Ok(())
+    }
 }
 
 impl Printed for Cell {

@@ -1,7 +1,7 @@
 -- At a place stands one cell or the bytes have one fault, and no spelling begins another.
 use Rattle.std.specs.Prelude.{◌≡◌, ℕ, List, ◌++◌, length}
 use Rattle.geo_base.specs.declared.cell.Cell.{Cell}
-use Rattle.row_codec.specs.Answers.{OneAnswer}
+use Rattle.geo_base.specs.Results.{OneAnswer}
 use Rattle.row_codec.specs.Faults.{IsFaultAt, IsFaultOfCells}
 use Rattle.row_codec.specs.Places.{AreBytes}
 use Rattle.row_codec.specs.Spelling.{cell_spelling, cells_spelling, IsCell, AreCells, CellStands, CellsStand}

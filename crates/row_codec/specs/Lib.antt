@@ -1,7 +1,6 @@
 pub mod Places
 pub mod Parts
 pub mod Fields
-pub mod Answers
 pub mod Spelling
 pub mod Faults
 pub mod Alone

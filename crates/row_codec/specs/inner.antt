@@ -1,3 +1,4 @@
--- What only readers' bodies, and the laws about them, speak of.
+-- What the bodies of readers speak of, step by step; the laws about them, and the proofs of the crates above that read on, go through these steps.
+pub mod Fields
 pub mod Things
 pub mod Reading

@@ -1,8 +1,9 @@
 //! Fields of bytes, read from left to right, for each reader and its own faults.
-ghost use Rattle.std.specs.Prelude.{◌≡◌, ◌≤◌, length, IfOk};
+ghost use Rattle.std.specs.Prelude.{◌≡◌, ◌≤◌, length, IfOk, IfErr};
 ghost use Rattle.std.specs.Int.{w16, w32, w64};
-ghost use Rattle.row_codec.specs.Answers.{Matches};
-ghost use Rattle.row_codec.specs.Fields.{field_at, byte_at, number_at};
+ghost use Rattle.geo_base.specs.Results.{Matches};
+ghost use Rattle.row_codec.specs.Fields.{IsCut, FieldStands, ByteStands, NumberStands};
+ghost use Rattle.row_codec.specs.inner.Fields.{field_at, byte_at, number_at};
 
 /// A fault that can say that a field needs more bytes than there are.
 pub trait FieldFault: Drop {
@@ -18,12 +19,13 @@ pub trait FieldFault: Drop {
 }
 
 /// So many bytes from the place on, and the place behind them.
-#[tactic(auto, unfolding(crate::specs::Fields::field_at))]
+#[tactic(auto, unfolding(crate::specs::inner::Fields::field_at))]
 pub fn read_field<E: FieldFault>(bytes: &[u8], at: usize, count: usize) -> Result<(&[u8], usize), E>
     requires { at ≤ length bytes.now }
+    ensures stands { IfOk result (λ x. FieldStands count bytes.now at (x.0.now, x.1)) }
+    ensures cut { IfErr result (IsCut E.short count bytes.now at) }
     ensures exact { Matches (λ x. (x.0.now, x.1)) result (field_at E.short count bytes.now at) }
     ensures within { IfOk result (λ x. x.1 ≤ length bytes.now) }
-    ensures len { IfOk result (λ x. length x.0.now ≡ count) }
 {
     if bytes.len() - at < count {
         return Err(E::short_at(bytes.len()));
@@ -32,9 +34,11 @@ pub fn read_field<E: FieldFault>(bytes: &[u8], at: usize, count: usize) -> Resul
 }
 
 /// The byte at the place, and the place behind it.
-#[tactic(auto, unfolding(crate::specs::Fields::byte_at))]
+#[tactic(auto, unfolding(crate::specs::inner::Fields::byte_at))]
 pub fn read_byte<E: FieldFault>(bytes: &[u8], at: usize) -> Result<(u8, usize), E>
     requires { at ≤ length bytes.now }
+    ensures stands { IfOk result (ByteStands bytes.now at) }
+    ensures cut { IfErr result (IsCut E.short 1 bytes.now at) }
     ensures exact { Matches (λ x. x) result (byte_at E.short bytes.now at) }
     ensures within { IfOk result (λ x. x.1 ≤ length bytes.now) }
 {
@@ -43,9 +47,11 @@ pub fn read_byte<E: FieldFault>(bytes: &[u8], at: usize) -> Result<(u8, usize), 
 }
 
 /// The number whose two bytes stand at the place, the higher one first, and the place behind them.
-#[tactic(auto, unfolding(crate::specs::Fields::number_at))]
+#[tactic(auto, unfolding(crate::specs::inner::Fields::number_at))]
 pub fn read_u16<E: FieldFault>(bytes: &[u8], at: usize) -> Result<(u16, usize), E>
     requires { at ≤ length bytes.now }
+    ensures stands { IfOk result (NumberStands w16 bytes.now at) }
+    ensures cut { IfErr result (IsCut E.short 2 bytes.now at) }
     ensures exact { Matches (λ x. x) result (number_at E.short w16 bytes.now at) }
     ensures within { IfOk result (λ x. x.1 ≤ length bytes.now) }
 {
@@ -54,9 +60,11 @@ pub fn read_u16<E: FieldFault>(bytes: &[u8], at: usize) -> Result<(u16, usize), 
 }
 
 /// The number whose four bytes stand at the place, the highest one first, and the place behind them.
-#[tactic(auto, unfolding(crate::specs::Fields::number_at))]
+#[tactic(auto, unfolding(crate::specs::inner::Fields::number_at))]
 pub fn read_u32<E: FieldFault>(bytes: &[u8], at: usize) -> Result<(u32, usize), E>
     requires { at ≤ length bytes.now }
+    ensures stands { IfOk result (NumberStands w32 bytes.now at) }
+    ensures cut { IfErr result (IsCut E.short 4 bytes.now at) }
     ensures exact { Matches (λ x. x) result (number_at E.short w32 bytes.now at) }
     ensures within { IfOk result (λ x. x.1 ≤ length bytes.now) }
 {
@@ -66,9 +74,11 @@ pub fn read_u32<E: FieldFault>(bytes: &[u8], at: usize) -> Result<(u32, usize), 
 }
 
 /// The number whose eight bytes stand at the place, the highest one first, and the place behind them.
-#[tactic(auto, unfolding(crate::specs::Fields::number_at))]
+#[tactic(auto, unfolding(crate::specs::inner::Fields::number_at))]
 pub fn read_u64<E: FieldFault>(bytes: &[u8], at: usize) -> Result<(u64, usize), E>
     requires { at ≤ length bytes.now }
+    ensures stands { IfOk result (NumberStands w64 bytes.now at) }
+    ensures cut { IfErr result (IsCut E.short 8 bytes.now at) }
     ensures exact { Matches (λ x. x) result (number_at E.short w64 bytes.now at) }
     ensures within { IfOk result (λ x. x.1 ≤ length bytes.now) }
 {

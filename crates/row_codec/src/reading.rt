@@ -1,9 +1,8 @@
 //! Cells that stand at a place.
 ghost use Rattle.std.specs.Prelude.{◌≡◌, ◌≤◌, ◌⊎◌, length, true, false, IfOk, IfErr, MatchOption};
 ghost use Rattle.std.specs.Str.{is_utf8};
-ghost use Rattle.geo_base.specs.Results.{Gives};
 ghost use Rattle.row_codec.specs.declared.fault.CellReadFault.TheVariants.{NoMemory};
-ghost use Rattle.row_codec.specs.Answers.{Reads, Refuses};
+ghost use Rattle.geo_base.specs.Results.{Gives, Reads, Refuses};
 ghost use Rattle.row_codec.specs.Faults.{IsFaultAt, IsFaultOfCells};
 ghost use Rattle.row_codec.specs.Spelling.{CellStands, CellsStand};
 ghost use Rattle.row_codec.specs.inner.Reading.{length_at, content_at, text_at, int_cell_at, text_cell_at, tagged_at, cell_at, cells_at};

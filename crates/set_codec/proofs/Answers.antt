@@ -1,13 +1,12 @@
 -- What readers answer, in terms of spellings and of what is wrong with the bytes.
 use Rattle.std.proofs.Common.{◌≡◌, ℕ, ◌≤◌, None, List, Result, Ok, Err, sym}
 use Rattle.std.specs.Prelude.{IfOk}
-use Rattle.geo_base.specs.Results.{Gives}
+use Rattle.geo_base.specs.Results.{Gives, Reads}
 use Rattle.geo_base.specs.declared.limits.TheConstants.{MAX_REGIONS}
 use Rattle.geo_schema.specs.declared.table.TableDef.{TableDef}
 use Rattle.geo_schema.specs.Schemas.{IsSchema}
-use Rattle.row_codec.specs.Answers.{Reads}
 use Rattle.row_codec.specs.Places.{AreBytes}
-use Rattle.row_codec.specs.laws.Tells.{answer_only}
+use Rattle.geo_base.specs.laws.Answers.{answer_only}
 use Rattle.write_set.specs.declared.batch.Batch.{Batch}
 use Rattle.set_codec.specs.declared.fault.CodecFault.{CodecFault}
 use Rattle.set_codec.specs.declared.fault.CodecFault.TheVariants.{NoMemory}

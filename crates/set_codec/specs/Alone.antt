@@ -3,7 +3,7 @@ use Rattle.std.specs.Prelude.{◌≡◌, ℕ, ◌≤◌, List, ◌++◌}
 use Rattle.geo_base.specs.declared.limits.TheConstants.{MAX_REGIONS}
 use Rattle.geo_schema.specs.declared.table.TableDef.{TableDef}
 use Rattle.geo_schema.specs.Schemas.{IsSchema}
-use Rattle.row_codec.specs.Answers.{OneAnswer}
+use Rattle.geo_base.specs.Results.{OneAnswer}
 use Rattle.row_codec.specs.Places.{AreBytes}
 use Rattle.write_set.specs.declared.batch.Batch.{Batch}
 use Rattle.set_codec.specs.declared.packet.Packet.{Packet}

@@ -1,8 +1,7 @@
 //! Candidates, and the batch that bytes spell.
 ghost use Rattle.std.specs.Prelude.{◌≡◌, ◌≤◌, ◌<◌, ◌⊎◌, length, IfOk, IfErr};
 ghost use Rattle.geo_base.specs.declared.limits.TheConstants.{MAX_REGIONS};
-ghost use Rattle.geo_base.specs.Results.{Gives};
-ghost use Rattle.row_codec.specs.Answers.{Reads, Refuses};
+ghost use Rattle.geo_base.specs.Results.{Gives, Reads, Refuses};
 ghost use Rattle.set_codec.specs.declared.fault.CodecFault.TheVariants.{NoMemory};
 ghost use Rattle.set_codec.specs.Alone.{SpellsBatch};
 ghost use Rattle.set_codec.specs.Faults.{IsBatchFault};

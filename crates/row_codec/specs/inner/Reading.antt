@@ -8,7 +8,7 @@ use Rattle.geo_base.specs.declared.cell.Cell.TheVariants.{Null, Int, Text, Truth
 use Rattle.geo_base.specs.Results.{Read, ◌>>=◌}
 use Rattle.row_codec.specs.declared.fault.CellReadFault.{CellReadFault}
 use Rattle.row_codec.specs.declared.fault.CellReadFault.TheVariants.{Short, BadTag, BadUtf8, TooLong}
-use Rattle.row_codec.specs.Fields.{field_at, byte_at, number_at}
+use Rattle.row_codec.specs.inner.Fields.{field_at, byte_at, number_at}
 use Rattle.row_codec.specs.inner.Things.{things_at}
 
 -- the length of a text, which isn't too great

@@ -15,14 +15,16 @@ use Rattle.geo_base.specs.laws.Results.{done, lost, ok_is, fault_is, not_done, b
 use Rattle.row_codec.specs.declared.fault.CellReadFault.{CellReadFault}
 use Rattle.row_codec.specs.declared.fault.CellReadFault.TheVariants.{Short, BadTag, BadUtf8, TooLong}
 use Rattle.row_codec.specs.Faults.{IsTextFault, IsTaggedFault, IsFaultAt, IsFaultOfCells}
-use Rattle.row_codec.specs.Fields.{field_at, byte_at, number_at, IsCut, FieldStands, NumberStands}
+use Rattle.row_codec.specs.Fields.{IsCut, FieldStands, NumberStands}
+use Rattle.row_codec.specs.inner.Fields.{field_at, byte_at, number_at}
 use Rattle.row_codec.specs.Parts.{Keeps, Breaks}
 use Rattle.row_codec.specs.Places.{AreBytes, StandsAt}
 use Rattle.row_codec.specs.Spelling.{cell_spelling, cells_spelling, IsCell, CellStands, CellsStand}
 use Rattle.row_codec.specs.inner.Reading.{length_at, content_at, text_at, int_cell_at, text_cell_at, tagged_at, cell_at, cells_at}
 use Rattle.row_codec.specs.laws.Fields.{wide16, wide64, field_tells, byte_tells, number_tells}
 use Rattle.row_codec.specs.laws.Places.{stands_together, front_stands, rest_stands, nothing_stands, nothing_between}
-use Rattle.row_codec.specs.laws.Tells.{Tells, tells_done, tells_then, tells_kept, tells_broken, tells_rule}
+use Rattle.row_codec.specs.laws.Tells.{tells_done, tells_then, tells_kept, tells_broken, tells_rule}
+use Rattle.geo_base.specs.laws.Answers.{Tells}
 use Rattle.row_codec.specs.laws.Things.{IsList, IsBehind, things_tell}
 
 module _ (bytes : List ℕ) where

@@ -5,11 +5,13 @@ use Rattle.std.proofs.lemmas.Bool.{cases_lt, ltb-true, ltb-false}
 use Rattle.std.proofs.lemmas.List.{take_at, drop-drop, take-append-drop, length-append, length-take, length-drop}
 use Rattle.std.proofs.lemmas.Nat.{be_bytes_2, be_bytes_4, be_bytes_8, from_be_bytes-to_be_bytes_2, from_be_bytes-to_be_bytes_4, from_be_bytes-to_be_bytes_8}
 use Rattle.geo_base.specs.laws.Results.{done}
-use Rattle.row_codec.specs.Fields.{field_at, byte_at, number_at, IsCut, FieldStands, ByteStands, NumberStands}
+use Rattle.row_codec.specs.Fields.{IsCut, FieldStands, ByteStands, NumberStands}
+use Rattle.row_codec.specs.inner.Fields.{field_at, byte_at, number_at}
 use Rattle.row_codec.specs.Parts.{FirstOrLater}
 use Rattle.row_codec.specs.Places.{AreBytes, StandsAt}
 use Rattle.row_codec.specs.laws.Places.{part_of_bytes}
-use Rattle.row_codec.specs.laws.Tells.{Tells, tells_as, tells_done, tells_then, tells_broken}
+use Rattle.row_codec.specs.laws.Tells.{tells_as, tells_done, tells_then, tells_broken}
+use Rattle.geo_base.specs.laws.Answers.{Tells}
 
 single : (xs : List ℕ) → length xs ≡ 1 → xs ≡ get_or xs 0 0 ∷ []
 single [] e = absurd (omega arith)
@@ -100,18 +102,20 @@ module _ {E : Type 0} (short : ℕ → E) (bytes : List ℕ) (at : ℕ) where
       (λ _ y s. subst (ByteStands bytes at) s.2 (subst (λ (t : List ℕ). StandsAt t bytes at s.0.1) (single s.0.0 s.1.1) s.1.0)) (λ y s. ((y.0 ∷ [], y.1), (s, refl), refl))
       (λ _ e h. elim h [ inl c ↦ c | inr c ↦ absurd c.2 ]) (λ e h. inl h)
 
+  -- the number of a field that stands there
+  pub number_of_field : (w : Width) → IsWide w → AreBytes bytes → (x : List ℕ × ℕ) → FieldStands (byte_len w) bytes at x → NumberStands w bytes at (from_be_bytes w x.0, x.1)
+  unfolding taken
+  number_of_field w wide fits x field =
+      let whole : taken (byte_len w) ≡ x = field_is (byte_len w) x field in
+      let are : AreBytes x.0 = subst (λ (y : List ℕ × ℕ). AreBytes y.0) whole (part_of_bytes (byte_len w) at bytes fits) in
+      (subst (λ (t : List ℕ). StandsAt t bytes at x.1) (sym (wide.back x.0 field.1 are)) field.0, wide.below x.0 are)
+
   pub number_tells : (w : Width) → IsWide w → Tells (AreBytes bytes) (number_at short w bytes at) (NumberStands w bytes at) (IsCut short (byte_len w) bytes at)
-  unfolding number_at taken
+  unfolding number_at
   number_tells w wide =
       tells_as (AreBytes bytes) (λ y. (x : List ℕ × ℕ) × FieldStands (byte_len w) bytes at x × ((from_be_bytes w x.0, x.1) ≡ y)) (NumberStands w bytes at) (λ e. FirstOrLater (IsCut short (byte_len w) bytes at e) (FieldStands (byte_len w) bytes at) (λ x. ⊥)) (IsCut short (byte_len w) bytes at)
       (tells_then (AreBytes bytes) (field_at short (byte_len w) bytes at) (λ field. Ok (from_be_bytes w field.0, field.1)) (FieldStands (byte_len w) bytes at) (IsCut short (byte_len w) bytes at) (λ x y. (from_be_bytes w x.0, x.1) ≡ y) (λ _ _. ⊥)
       (field_tells (byte_len w)) (λ x _. tells_done (AreBytes bytes) (from_be_bytes w x.0, x.1)))
-      number_there
+      (λ fits y s. subst (NumberStands w bytes at) s.2 (number_of_field w wide fits s.0 s.1))
       (λ y s. ((to_be_bytes w y.0, y.1), (s.0, wide.len y.0), ap (λ (n : ℕ). (n, y.1)) (wide.again y.0 s.1)))
       (λ _ e h. elim h [ inl c ↦ c | inr c ↦ absurd c.2 ]) (λ e h. inl h)
-    where
-      number_there : AreBytes bytes → (y : ℕ × ℕ) → ((x : List ℕ × ℕ) × FieldStands (byte_len w) bytes at x × ((from_be_bytes w x.0, x.1) ≡ y)) → NumberStands w bytes at y
-      number_there fits y s =
-          let field = field_is (byte_len w) s.0 s.1 in
-          let are : AreBytes s.0.0 = subst (λ (x : List ℕ × ℕ). AreBytes x.0) field (part_of_bytes (byte_len w) at bytes fits) in
-          subst (NumberStands w bytes at) s.2 (subst (λ (t : List ℕ). StandsAt t bytes at s.0.1) (sym (wide.back s.0.0 s.1.1 are)) s.1.0, wide.below s.0.0 are)

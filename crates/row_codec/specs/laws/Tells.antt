@@ -1,17 +1,9 @@
--- Laws: what reading gives tells what stands in the bytes and which fault they have, in both directions; and so does reading that is put together from such parts.
+-- Laws: reading that is put together from parts tells what stands in the bytes and which fault they have, where its parts do.
 use Rattle.std.proofs.Common.{◌≡◌, ℕ, Bool, true, false, cond, Result, Ok, Err, refl, sym, ap, subst, ◌∙◌, ◌⊎◌, inl, inr}
-use Rattle.std.specs.Prelude.{IfOk, IfErr}
-use Rattle.geo_base.specs.Results.{◌>>=◌, Gives}
+use Rattle.geo_base.specs.Results.{◌>>=◌}
+use Rattle.geo_base.specs.laws.Answers.{Tells}
 use Rattle.geo_base.specs.laws.Results.{done, lost, ok_is, fault_is, not_done, bind_ok, failed}
-use Rattle.row_codec.specs.Answers.{Reads, Refuses, OneAnswer}
 use Rattle.row_codec.specs.Parts.{FirstOrLater, Keeps, Breaks}
-
--- what is read stands there, what stands there is read, and a fault is given exactly where the bytes have it; what is found and what causes a fault is known of sound bytes
-pub record Tells {A E : Type 0} (Sound : Type 0) (meant : Result A E) (Stands : A → Type 0) (IsFault : E → Type 0) : Type 0 where
-  pub found : Sound → (x : A) → meant ≡ Ok x → Stands x
-  pub only : (x : A) → Stands x → meant ≡ Ok x
-  pub cause : Sound → (e : E) → meant ≡ Err e → IsFault e
-  pub refused : (e : E) → IsFault e → meant ≡ Err e
 
 module _ {E : Type 0} (Sound : Type 0) where
   -- the same, in other words
@@ -72,44 +64,3 @@ module _ {E : Type 0} (Sound : Type 0) where
       (λ sound y s. subst (Keeps P Rule) s.2.1 (s.1, s.2.0)) (λ y s. (y, s.0, (s.1, refl)))
       (λ sound e h. elim h [ inl c ↦ inl c | inr c ↦ elim c.2 [ inl d ↦ inr (c.0, c.1, d) | inr d ↦ absurd d.1 ] ])
       (λ e h. elim h [ inl c ↦ inl c | inr c ↦ inr (c.0, c.1, inl c.2) ])
-
--- ---- answers
-
--- where reading gives one thing or one fault, the bytes have just that
-pub one_answer : {A E : Type 0} (Sound : Type 0) (r : Result A E) (P : A → Type 0) (F : E → Type 0) → Tells Sound r P F → Sound → OneAnswer P F
-one_answer {A} {E} Sound r P F t sound = record {
-  some = by r refl;
-  one = λ x y p q. ok_is x y (sym (t.only x p) ∙ t.only y q);
-  one_fault = λ e f p q. fault_is {A = A} e f (sym (t.refused e p) ∙ t.refused f q);
-  not_both = λ x e p q. not_done x e (sym (t.only x p) ∙ t.refused e q);
-}
-  where
-    by : (q : Result A E) → r ≡ q → ((x : A) × P x) ⊎ ((e : E) × F e)
-    by (Ok x) e = inl (x, t.found sound x e)
-    by (Err d) e = inr (d, t.cause sound d e)
-
-module _ {X Y E : Type 0} (no_memory : E) (view : X → Y) (Sound : Type 0) (meant : Result Y E) (P : Y → Type 0) (F : E → Type 0) (t : Tells Sound meant P F) (sound : Sound) where
-  -- what is answered stands there
-  pub answer_found : (r : Result X E) → Gives no_memory view r meant → IfOk r (λ x. P (view x))
-  answer_found (Ok x) exact = t.found sound (view x) exact
-  answer_found (Err e) exact = tt
-
-  -- a fault that is answered is had by the bytes, unless there was no memory
-  pub answer_faulty : (r : Result X E) → Gives no_memory view r meant → IfErr r (λ e. (e ≡ no_memory) ⊎ F e)
-  answer_faulty (Ok x) exact = tt
-  answer_faulty (Err e) exact = elim exact [ inl c ↦ inl c | inr c ↦ inr (t.cause sound e c) ]
-
-  -- what stands there is answered, unless there was no memory
-  pub answer_only : (r : Result X E) → Gives no_memory view r meant → Reads no_memory view r P
-  answer_only (Ok x) exact = λ y p. ok_is (view x) y (sym exact ∙ t.only y p)
-  answer_only (Err e) exact = λ y p. elim exact [ inl c ↦ c | inr c ↦ not_done y e (sym (t.only y p) ∙ c) ]
-
-  -- a fault that the bytes have is answered, unless there was no memory
-  pub answer_refused : (r : Result X E) → Gives no_memory view r meant → Refuses no_memory r F
-  answer_refused (Ok x) exact = λ e p. not_done (view x) e (sym exact ∙ t.refused e p)
-  answer_refused (Err f) exact = λ e p. elim exact [ inl c ↦ inl c | inr c ↦ inr (fault_is {A = Y} f e (sym c ∙ t.refused e p)) ]
-
-  -- a call that answers so gives what reading gives
-  pub answer_gives : (r : Result X E) → IfOk r (λ x. P (view x)) → IfErr r (λ e. (e ≡ no_memory) ⊎ F e) → Gives no_memory view r meant
-  answer_gives (Ok x) found faulty = t.only (view x) found
-  answer_gives (Err e) found faulty = elim faulty [ inl c ↦ inl c | inr c ↦ inr (t.refused e c) ]

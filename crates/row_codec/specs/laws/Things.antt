@@ -4,7 +4,8 @@ use Rattle.std.proofs.lemmas.List.{append-nil}
 use Rattle.geo_base.specs.Results.{Read, ◌>>=◌, Fails}
 use Rattle.row_codec.specs.Parts.{FirstOrLater, IsFaultOfThings}
 use Rattle.row_codec.specs.inner.Things.{things_at, with_front, ComesTo}
-use Rattle.row_codec.specs.laws.Tells.{Tells, tells_as, tells_done, tells_then}
+use Rattle.row_codec.specs.laws.Tells.{tells_as, tells_done, tells_then}
+use Rattle.geo_base.specs.laws.Answers.{Tells}
 
 -- ---- in a loop
 

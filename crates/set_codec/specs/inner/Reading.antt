@@ -13,7 +13,7 @@ use Rattle.geo_schema.specs.declared.table.TableDef.{TableDef}
 use Rattle.geo_schema.specs.inner.Rows.{cell_fault}
 use Rattle.geo_schema.specs.Schemas.{table_at}
 use Rattle.row_codec.specs.declared.fault.CellReadFault.{CellReadFault}
-use Rattle.row_codec.specs.Fields.{field_at, byte_at, number_at}
+use Rattle.row_codec.specs.inner.Fields.{field_at, byte_at, number_at}
 use Rattle.row_codec.specs.inner.Reading.{cell_at}
 use Rattle.row_codec.specs.inner.Things.{things_at}
 use Rattle.write_set.specs.declared.change.Change.TheVariants.{Put, Remove}

@@ -11,7 +11,8 @@ use Rattle.geo_schema.specs.Schemas.{IsSchema}
 use Rattle.row_codec.specs.Parts.{FirstOrLater}
 use Rattle.row_codec.specs.Places.{AreBytes, StandsAt}
 use Rattle.row_codec.specs.laws.Places.{stands_together, front_stands, rest_stands, begin_stands, whole_stands, rest_is}
-use Rattle.row_codec.specs.laws.Tells.{Tells, tells_as, tells_done, tells_then, tells_kept, one_answer}
+use Rattle.row_codec.specs.laws.Tells.{tells_as, tells_done, tells_then, tells_kept}
+use Rattle.geo_base.specs.laws.Answers.{Tells, one_answer}
 use Rattle.write_set.specs.declared.batch.Batch.{Batch}
 use Rattle.write_set.specs.declared.candidate.Candidate.{Candidate}
 use Rattle.write_set.specs.Journal.{IsCandidate}

@@ -17,7 +17,8 @@ use Rattle.row_codec.specs.Parts.{FirstOrLater}
 use Rattle.row_codec.specs.Places.{AreBytes, StandsAt}
 use Rattle.row_codec.specs.Spelling.{cells_spelling, AreCells}
 use Rattle.row_codec.specs.laws.Places.{stands_together, front_stands, rest_stands, nothing_stands, nothing_between}
-use Rattle.row_codec.specs.laws.Tells.{Tells, tells_as, tells_done, tells_then, tells_kept}
+use Rattle.row_codec.specs.laws.Tells.{tells_as, tells_done, tells_then, tells_kept}
+use Rattle.geo_base.specs.laws.Answers.{Tells}
 use Rattle.row_codec.specs.laws.Things.{IsList, IsBehind, things_tell}
 use Rattle.write_set.specs.declared.change.Change.TheVariants.{Put, Remove}
 use Rattle.write_set.specs.Sets.{ChangeOfRow, Rises, IsWriteSet}

@@ -10,11 +10,13 @@ use Rattle.geo_base.specs.Results.{◌>>=◌}
 use Rattle.geo_base.specs.laws.Orders.{text_eq_decides}
 use Rattle.geo_base.specs.laws.Results.{done, lost, ok_is, fault_is, not_done, chosen}
 use Rattle.geo_schema.specs.declared.table.TableDef.{TableDef}
-use Rattle.row_codec.specs.Fields.{field_at, byte_at, number_at, IsCut, FieldStands, ByteStands, NumberStands}
+use Rattle.row_codec.specs.Fields.{IsCut, FieldStands, ByteStands, NumberStands}
+use Rattle.row_codec.specs.inner.Fields.{field_at, byte_at, number_at}
 use Rattle.row_codec.specs.Parts.{Keeps, Breaks}
 use Rattle.row_codec.specs.Places.{AreBytes}
 use Rattle.row_codec.specs.laws.Fields.{wide32, field_tells, byte_tells, number_tells}
-use Rattle.row_codec.specs.laws.Tells.{Tells, tells_as, tells_done, tells_then, tells_kept, tells_rule}
+use Rattle.row_codec.specs.laws.Tells.{tells_as, tells_done, tells_then, tells_kept, tells_rule}
+use Rattle.geo_base.specs.laws.Answers.{Tells}
 use Rattle.set_codec.specs.declared.fault.CodecFault.{CodecFault}
 use Rattle.set_codec.specs.declared.fault.CodecFault.TheVariants.{Short, BadTag, BadRow, BadStart, OverLimit, Trailing}
 use Rattle.set_codec.specs.declared.fault.Limit.TheVariants as limit

@@ -7,12 +7,14 @@ use Rattle.geo_base.specs.declared.limits.TheConstants.{MAX_REGIONS, LAST_EPOCH}
 use Rattle.geo_base.specs.laws.Results.{lost, fault_is, not_done, chosen}
 use Rattle.geo_schema.specs.declared.table.TableDef.{TableDef}
 use Rattle.geo_schema.specs.Schemas.{IsSchema}
-use Rattle.row_codec.specs.Fields.{byte_at, IsCut, ByteStands}
+use Rattle.row_codec.specs.Fields.{IsCut, ByteStands}
+use Rattle.row_codec.specs.inner.Fields.{byte_at}
 use Rattle.row_codec.specs.Parts.{FirstOrLater}
 use Rattle.row_codec.specs.Places.{AreBytes, StandsAt}
 use Rattle.row_codec.specs.laws.Fields.{byte_tells}
 use Rattle.row_codec.specs.laws.Places.{stands_together, front_stands, rest_stands, whole_stands, rest_is}
-use Rattle.row_codec.specs.laws.Tells.{Tells, tells_as, tells_done, tells_then, one_answer}
+use Rattle.row_codec.specs.laws.Tells.{tells_as, tells_done, tells_then}
+use Rattle.geo_base.specs.laws.Answers.{Tells, one_answer}
 use Rattle.write_set.specs.declared.batch.Batch.{Batch}
 use Rattle.set_codec.specs.declared.fault.CodecFault.{CodecFault}
 use Rattle.set_codec.specs.declared.fault.CodecFault.TheVariants.{Short, BadTag}

@@ -23,7 +23,8 @@ use Rattle.row_codec.specs.Spelling.{cell_spelling, cells_spelling, IsCell, AreC
 use Rattle.row_codec.specs.inner.Reading.{cell_at}
 use Rattle.row_codec.specs.laws.Cells.{cell_tells}
 use Rattle.row_codec.specs.laws.Places.{stands_together, front_stands, rest_stands, nothing_stands, nothing_between}
-use Rattle.row_codec.specs.laws.Tells.{Tells, tells_as, tells_rule}
+use Rattle.row_codec.specs.laws.Tells.{tells_as, tells_rule}
+use Rattle.geo_base.specs.laws.Answers.{Tells}
 use Rattle.row_codec.specs.laws.Things.{IsList, IsBehind, things_tell}
 use Rattle.set_codec.specs.declared.fault.CodecFault.{CodecFault}
 use Rattle.set_codec.specs.declared.fault.CodecFault.TheVariants.{BadRow}

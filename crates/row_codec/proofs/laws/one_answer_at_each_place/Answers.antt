@@ -1,5 +1,5 @@
 use Rattle.row_codec.specs.laws.Cells.{cell_tells, cells_tell}
-use Rattle.row_codec.specs.laws.Tells.{one_answer}
+use Rattle.geo_base.specs.laws.Answers.{one_answer}
 use Rattle.row_codec.proofs.laws.one_answer_at_each_place.Goals as goal
 
 pub returns-clause-cell : goal.returns-clause-cell

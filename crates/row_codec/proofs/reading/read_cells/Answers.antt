@@ -1,6 +1,6 @@
 use Rattle.std.proofs.Common.{arith}
 use Rattle.row_codec.specs.laws.Cells.{cells_tell}
-use Rattle.row_codec.specs.laws.Tells.{answer_found, answer_only, answer_faulty, answer_refused}
+use Rattle.geo_base.specs.laws.Answers.{answer_found, answer_only, answer_faulty, answer_refused}
 use Rattle.row_codec.proofs.reading.read_cells.Goals as goal
 
 pub returns-clause-found : goal.returns-clause-found

@@ -1,5 +1,5 @@
 use Rattle.std.proofs.Common.{arith, None}
-use Rattle.row_codec.specs.laws.Tells.{answer_faulty, answer_refused}
+use Rattle.geo_base.specs.laws.Answers.{answer_faulty, answer_refused}
 use Rattle.set_codec.specs.laws.Batches.{batch_tells}
 use Rattle.set_codec.proofs.Answers.{batch_fits, batch_spelled, batch_only}
 use Rattle.set_codec.proofs.batch_reading.read_batch.Goals as goal

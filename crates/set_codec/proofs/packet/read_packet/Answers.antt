@@ -1,5 +1,5 @@
 use Rattle.std.proofs.Common.{arith}
-use Rattle.row_codec.specs.laws.Tells.{answer_faulty, answer_refused}
+use Rattle.geo_base.specs.laws.Answers.{answer_faulty, answer_refused}
 use Rattle.set_codec.specs.laws.Packets.{packet_tells}
 use Rattle.set_codec.proofs.Answers.{packet_fits, packet_spelled, packet_only}
 use Rattle.set_codec.proofs.packet.read_packet.Goals as goal
