@@ -44,6 +44,7 @@ list_clause words text (first ∷ others) = words ++ commas text (first ∷ othe
 abbrev pub column_text : ColRef → List ℕ
 column_text column = if_some (λ table. table ++ codes ".") column.table ++ column.name
 
+-- an operator between two operands
 abbrev pub operator_text : AstOp → List ℕ
 operator_text op.Plus = codes "+"
 operator_text op.Minus = codes "-"
@@ -86,6 +87,7 @@ alias_text alias = if_some (λ name. codes " AS " ++ name) alias
 abbrev pub aggregate_text : List ℕ → Ast → List ℕ
 aggregate_text keyword argument = keyword ++ codes "(" ++ expression_text argument ++ codes ")"
 
+-- what an item of a query is: an expression, or an aggregate
 abbrev pub value_text : AstValue → List ℕ
 value_text (value.Plain e) = expression_text e
 value_text value.CountAll = codes "COUNT(*)"
@@ -94,13 +96,16 @@ value_text (value.Sum e) = aggregate_text (codes "SUM") e
 value_text (value.Min e) = aggregate_text (codes "MIN") e
 value_text (value.Max e) = aggregate_text (codes "MAX") e
 
+-- an item of a query, and the name that AS gives it
 abbrev pub item_text : AstItem → List ℕ
 item_text item = value_text item.value ++ alias_text item.alias
 
+-- the items of a query: a star for all columns, or a list
 abbrev pub items_text : Items → List ℕ
 items_text items.All = codes "*"
 items_text (items.List list) = commas item_text list
 
+-- a table, and the name that AS gives it
 abbrev pub table_text : TableRef → List ℕ
 table_text table = table.name ++ alias_text table.alias
 
@@ -116,6 +121,7 @@ filter_text filter = if_some (λ e. codes " WHERE " ++ expression_text e) filter
 abbrev pub order_text : OrderRef → List ℕ
 order_text order = column_text order.column ++ (if order.descending then codes " DESC" else [])
 
+-- the clause of LIMIT
 abbrev pub limit_text : Option ℕ → List ℕ
 limit_text limit = if_some (λ n. codes " LIMIT " ++ decimal n) limit
 
@@ -133,18 +139,23 @@ abbrev pub columns_text : List (List ℕ) → List ℕ
 columns_text [] = []
 columns_text (first ∷ others) = codes "(" ++ commas (λ name. name) (first ∷ others) ++ codes ")"
 
+-- the values of a row in parentheses
 abbrev pub row_text : AstRow → List ℕ
 row_text row = codes "(" ++ commas expression_text row.values ++ codes ")"
 
+-- an INSERT
 unfoldable pub insert_text : InsertStmt → List ℕ
 insert_text insert = codes "INSERT INTO " ++ insert.table ++ columns_text insert.columns ++ codes " VALUES " ++ commas row_text insert.rows
 
+-- a column and the expression that it is set to
 abbrev pub set_text : AstSet → List ℕ
 set_text set = set.column ++ codes " = " ++ expression_text set.value
 
+-- an UPDATE
 unfoldable pub update_text : UpdateStmt → List ℕ
 update_text update = codes "UPDATE " ++ update.table ++ codes " SET " ++ commas set_text update.sets ++ filter_text update.filter
 
+-- a DELETE
 unfoldable pub delete_text : DeleteStmt → List ℕ
 delete_text delete = codes "DELETE FROM " ++ delete.table ++ filter_text delete.filter
 

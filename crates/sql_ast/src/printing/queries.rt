@@ -3,7 +3,7 @@ ghost use Rattle.std.specs.Prelude.{◌≡◌, ◌++◌, OnOk, string_bytes};
 ghost use Rattle.sql_ast.specs.Printing as texts;
 
 use super::clauses::print_list_clause;
-use super::columns::{print_alias, print_name};
+use super::columns::print_alias;
 use super::expressions::{print_expression, print_filter};
 use crate::ast::Ast;
 use crate::select::{AstItem, AstValue, Items, JoinRef, OrderRef, SelectStmt, TableRef};
@@ -69,7 +69,7 @@ fn print_items(out: &mut String, items: &Items) -> Result<(), NoMemory>
 fn print_table(out: &mut String, table: &TableRef) -> Result<(), NoMemory>
     ensures { OnOk result (string_bytes out.new ≡ string_bytes out.old ++ texts.table_text table.now) }
 {
-    print_name(out, &table.name)?;
+    table.name.print_to(out)?;
     print_alias(out, &table.alias)
 }
 

@@ -2,7 +2,6 @@
 ghost use Rattle.std.specs.Prelude.{◌≡◌, ◌++◌, OnOk, string_bytes};
 ghost use Rattle.sql_ast.specs.Printing as texts;
 
-use super::columns::{print_name, print_names};
 use super::expressions::{print_expression, print_filter};
 use crate::delete::DeleteStmt;
 use crate::insert::{AstRow, InsertStmt};
@@ -17,7 +16,7 @@ fn print_columns(out: &mut String, columns: &[Txt]) -> Result<(), NoMemory>
         return Ok(());
     }
     out.push_str("(")?;
-    print_names(out, columns)?;
+    print_commas(out, columns)?;
     out.push_str(")")?;
     Ok(())
 }
@@ -37,7 +36,7 @@ impl Printed for AstSet {
     ghost text = { texts.set_text };
 
     fn print_to(&self, out: &mut String) -> Result<(), NoMemory> {
-        print_name(out, &self.column)?;
+        self.column.print_to(out)?;
         out.push_str(" = ")?;
         print_expression(out, &self.value)
     }
@@ -48,7 +47,7 @@ pub(crate) fn print_insert(out: &mut String, insert: &InsertStmt) -> Result<(), 
     ensures { OnOk result (string_bytes out.new ≡ string_bytes out.old ++ texts.insert_text insert.now) }
 {
     out.push_str("INSERT INTO ")?;
-    print_name(out, &insert.table)?;
+    insert.table.print_to(out)?;
     print_columns(out, insert.columns.items())?;
     out.push_str(" VALUES ")?;
     print_commas(out, insert.rows.items())?;
@@ -61,7 +60,7 @@ pub(crate) fn print_update(out: &mut String, update: &UpdateStmt) -> Result<(), 
     ensures { OnOk result (string_bytes out.new ≡ string_bytes out.old ++ texts.update_text update.now) }
 {
     out.push_str("UPDATE ")?;
-    print_name(out, &update.table)?;
+    update.table.print_to(out)?;
     out.push_str(" SET ")?;
     print_commas(out, update.sets.items())?;
     print_filter(out, &update.filter)
@@ -72,7 +71,7 @@ pub(crate) fn print_delete(out: &mut String, delete: &DeleteStmt) -> Result<(), 
     ensures { OnOk result (string_bytes out.new ≡ string_bytes out.old ++ texts.delete_text delete.now) }
 {
     out.push_str("DELETE FROM ")?;
-    print_name(out, &delete.table)?;
+    delete.table.print_to(out)?;
     print_filter(out, &delete.filter)?;
     Ok(())
 }

@@ -7,4 +7,4 @@ pub returns : goal.returns
 unfolding delete_text
 returns c =
     delete-joined _ _ _ _ (codes "DELETE FROM ") c.args.delete.now.table (filter_text c.args.delete.now.filter) c.in_ok-push_str.ensures.bytes
-    c.in_ok-print_name.ensures c.in_ok-print_filter.ensures
+    c.in_ok-print_to.ensures c.in_ok-print_filter.ensures
