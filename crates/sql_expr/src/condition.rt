@@ -1,5 +1,6 @@
 //! Conditions.
-ghost use Rattle.std.specs.Prelude.{◌≡◌, ◌≢◌, ◌++◌, MatchResult, IfErr, Ok, Err};
+ghost use Rattle.std.specs.Prelude.{◌≡◌, ◌≢◌, ◌++◌, IfErr, Ok, Err};
+ghost use Rattle.geo_base.specs.Results.{Matches};
 ghost use Rattle.sql_expr.specs.declared.fault.EvalFault.TheVariants as fault;
 ghost use Rattle.sql_expr.specs.Conditions.{kept};
 
@@ -14,7 +15,7 @@ use geo_base::Cell;
 /// This takes no memory.
 #[tactic(auto, using(crate::proofs::FirstFaults::other_fault))]
 pub fn keeps(tests: &[Expr], left: &[Cell], right: &[Cell]) -> Result<bool, EvalFault>
-    ensures exact { MatchResult result (λ b. kept (left.now ++ right.now) tests.now ≡ Ok b) (λ e. kept (left.now ++ right.now) tests.now ≡ Err e) }
+    ensures exact { Matches (λ b. b) result (kept (left.now ++ right.now) tests.now) }
     ensures memory { IfErr result (λ e. e ≢ fault.NoMemory) }
 {
     for test in tests {

@@ -2,4 +2,3 @@ pub mod Boundaries
 pub mod Lexing
 pub mod Quotes
 pub mod Values
-pub mod OneAnswers

@@ -8,6 +8,8 @@ use Rattle.geo_base.specs.Texts.{doubled}
 use Rattle.sql_lex.specs.declared.keyword.Keyword.{Keyword}
 use Rattle.sql_lex.specs.declared.symbol.Symbol.{Symbol}
 use Rattle.sql_lex.specs.declared.symbol.Symbol.TheVariants as symbol
+use Rattle.sql_lex.specs.declared.token.LexFault.{LexFault}
+use Rattle.sql_lex.specs.declared.token.LexFault.TheVariants as fault
 use Rattle.sql_lex.specs.declared.token.Token.{Token}
 use Rattle.sql_lex.specs.declared.token.TokenKind.{TokenKind}
 use Rattle.sql_lex.specs.declared.token.TokenKind.TheVariants as kind
@@ -94,3 +96,8 @@ pub record StopsAt (text : List ℕ) (at : ℕ) : Type 0 where
   pub cut : AreCutFrom 0 text tokens rest
   pub place : at + length rest ≡ length text
   pub none : NoTokenBegins rest
+
+-- the text has the fault: it stops at the fault's place
+abbrev pub IsLexFault : List ℕ → LexFault → Type 0
+IsLexFault text (fault.BadText at) = StopsAt text at
+IsLexFault text fault.NoMemory = ⊥

@@ -1,20 +1,18 @@
 //! That the steps by which the code cuts a text come to what the grammar says of it.
 
-ghost use Rattle.std.specs.Prelude.{◌≡◌, ◌↔◌, ◌⊎◌, ℕ, List};
+ghost use Rattle.std.specs.Prelude.{◌≡◌, ◌↔◌, ℕ, List};
+ghost use Rattle.geo_base.specs.Results.{OneAnswer};
 ghost use Rattle.sql_lex.specs.declared.token.Token.{Token};
 ghost use Rattle.sql_lex.specs.declared.token.LexFault.{LexFault};
 ghost use Rattle.sql_lex.specs.declared.keyword.Keyword.{Keyword};
 ghost use Rattle.sql_lex.specs.Keywords.{IsKeyword};
 ghost use Rattle.sql_lex.specs.inner.Keywords.{keyword_of};
 ghost use Rattle.sql_lex.specs.inner.Tokens.{tokens_of};
-ghost use Rattle.sql_lex.specs.Grammar.{AreSlicesFrom, AreTokensOf, StopsAt};
+ghost use Rattle.sql_lex.specs.Grammar.{AreSlicesFrom, AreTokensOf, StopsAt, IsLexFault};
 
 /// A text is cut into tokens in one way, or stops at one place where no token begins, and not both.
 pub fn texts_have_one_answer()
-    ensures some { (text : List ℕ) → ((tokens : List Token) × AreTokensOf tokens text) ⊎ ((at : ℕ) × StopsAt text at) }
-    ensures one_list { (text : List ℕ) (tokens other : List Token) → AreTokensOf tokens text → AreTokensOf other text → tokens ≡ other }
-    ensures one_place { (text : List ℕ) (at other : ℕ) → StopsAt text at → StopsAt text other → at ≡ other }
-    ensures not_both { (text : List ℕ) (tokens : List Token) (at : ℕ) → AreTokensOf tokens text → StopsAt text at → ⊥ }
+    ensures { (text : List ℕ) → OneAnswer (λ tokens. AreTokensOf tokens text) (IsLexFault text) }
 {}
 
 /// The code's steps cut a text into those tokens, and no others, that the text spells one after

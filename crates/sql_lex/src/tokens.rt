@@ -1,10 +1,9 @@
 //! Cuts a text into its tokens.
 
-ghost use Rattle.std.specs.Prelude.{◌≡◌, ◌⊎◌, ◌<◌, ◌^◌, ℕ, List, length, IfOk, IfErr, MatchResult};
-ghost use Rattle.geo_base.specs.Results.{Gives};
-ghost use Rattle.sql_lex.specs.declared.token.Token.{Token};
+ghost use Rattle.std.specs.Prelude.{◌≡◌, ◌⊎◌, ◌<◌, ◌^◌, length, IfOk, IfErr};
+ghost use Rattle.geo_base.specs.Results.{Gives, Reads, Refuses};
 ghost use Rattle.sql_lex.specs.inner.Pieces as spec;
-ghost use Rattle.sql_lex.specs.Grammar.{AreTokensOf, AreSlicesFrom, StopsAt};
+ghost use Rattle.sql_lex.specs.Grammar.{AreTokensOf, AreSlicesFrom, IsLexFault};
 ghost use Rattle.sql_lex.specs.inner.Tokens.{tokens_of};
 
 use crate::bytes::{begins_word, is_blank};
@@ -69,9 +68,9 @@ pub fn lex(alloc: Global, text: &str) -> Result<Vec<Token>, LexFault>
     requires { length text.now < 2 ^ 32 }
     ensures cut { IfOk result (λ tokens. AreTokensOf tokens.items text.now) }
     ensures slices { IfOk result (λ tokens. AreSlicesFrom 0 text.now tokens.items) }
-    ensures only { (tokens : List Token) → AreTokensOf tokens text.now → MatchResult result (λ found. found.items ≡ tokens) (λ fault. fault ≡ LexFault.NoMemory) }
-    ensures stops { IfErr result (λ fault. (fault ≡ LexFault.NoMemory) ⊎ ((at : ℕ) × (fault ≡ LexFault.BadText at) × StopsAt text.now at)) }
-    ensures only_there { (at : ℕ) → StopsAt text.now at → MatchResult result (λ _. ⊥) (λ fault. (fault ≡ LexFault.NoMemory) ⊎ (fault ≡ LexFault.BadText at)) }
+    ensures only { Reads LexFault.NoMemory (λ tokens. tokens.items) result (λ tokens. AreTokensOf tokens text.now) }
+    ensures stops { IfErr result (λ fault. (fault ≡ LexFault.NoMemory) ⊎ IsLexFault text.now fault) }
+    ensures refused { Refuses LexFault.NoMemory result (IsLexFault text.now) }
 {
     cut_text(alloc, text)
 }

@@ -1,11 +1,11 @@
 -- A text is parsed as a statement where its tokens spell it, and refused where it has the fault.
-use Rattle.std.proofs.Common.{◌≡◌, ◌⊎◌, ◌↔◌, ℕ, List, Result, Ok, Err, IfOk, IfErr, MatchResult, length, refl, inl, inr}
-use Rattle.geo_base.specs.Results.{Gives}
+use Rattle.std.proofs.Common.{◌≡◌, ◌↔◌, ℕ, List, Result, Ok, Err, length, refl}
+use Rattle.geo_base.specs.laws.Answers.{Tells}
 use Rattle.sql_ast.specs.declared.statement.Statement.{Statement}
 use Rattle.sql_lex.specs.declared.token.LexFault.TheVariants as lex
 use Rattle.sql_lex.specs.declared.token.Token.{Token}
 use Rattle.sql_lex.specs.inner.Tokens.{Tokens, tokens_of}
-use Rattle.sql_lex.specs.laws.Cuts.{tokens_are_cut, cut_is_tokens, fault_stops, stops_there, stop_is_fault}
+use Rattle.sql_lex.specs.laws.Cuts.{tokens_are_cut, cut_is_tokens, stops_there, stop_is_fault, tokens_tell}
 use Rattle.sql_parse.specs.declared.fault.ParseFault.{ParseFault}
 use Rattle.sql_parse.specs.declared.fault.ParseFault.TheVariants as fault
 use Rattle.sql_parse.specs.declared.stop.Stop.{Stop}
@@ -32,12 +32,7 @@ texts_spelled text s = (
 -- ---- want of memory is no fault of a text
 
 tokens_never : (text : List ℕ) → tokens_of text ≡ Err lex.NoMemory → ⊥
-tokens_never text same =
-    let stops = fault_stops text lex.NoMemory same in
-    apart stops.0 stops.1
-  where
-    apart : (at : ℕ) → lex.NoMemory ≡ lex.BadText at → ⊥
-    apart at e = cc
+tokens_never text same = (tokens_tell text).cause (tt {0}) lex.NoMemory same
 
 whole_never : (tokens : List Token) → whole (kinds_of tokens) ≡ Err stop.NoMemory → ⊥
 unfolding whole
@@ -82,60 +77,11 @@ texts_refused text (fault.TooDeep at) = (
 )
 texts_refused text fault.NoMemory = (λ same. parsed_never text same, λ never. absurd never)
 
--- ---- a text has one answer
-
-pub some_answer : (text : List ℕ) → ((s : Statement) × IsTextOf text s) ⊎ ((f : ParseFault) × IsRefused text f)
-some_answer text = by (parsed text) refl
-  where
-    by : (r : Result Statement ParseFault) → parsed text ≡ r → ((s : Statement) × IsTextOf text s) ⊎ ((f : ParseFault) × IsRefused text f)
-    by (Ok s) same = inl (s, (texts_spelled text s).0 same)
-    by (Err f) same = inr (f, (texts_refused text f).0 same)
-
-both_read : (r : Result Statement ParseFault) (s other : Statement) → r ≡ Ok s → r ≡ Ok other → s ≡ other
-both_read r s other e f = cc
-
-both_refused : (r : Result Statement ParseFault) (f other : ParseFault) → r ≡ Err f → r ≡ Err other → f ≡ other
-both_refused r f other e g = cc
-
-read_and_refused : (r : Result Statement ParseFault) (s : Statement) (f : ParseFault) → r ≡ Ok s → r ≡ Err f → ⊥
-read_and_refused r s f e g = cc
-
-pub one_statement : (text : List ℕ) (s other : Statement) → IsTextOf text s → IsTextOf text other → s ≡ other
-one_statement text s other is also = both_read (parsed text) s other ((texts_spelled text s).1 is) ((texts_spelled text other).1 also)
-
-pub one_fault : (text : List ℕ) (f other : ParseFault) → IsRefused text f → IsRefused text other → f ≡ other
-one_fault text f other is also = both_refused (parsed text) f other ((texts_refused text f).1 is) ((texts_refused text other).1 also)
-
-pub not_both : (text : List ℕ) (s : Statement) (f : ParseFault) → IsTextOf text s → IsRefused text f → ⊥
-not_both text s f is refused = read_and_refused (parsed text) s f ((texts_spelled text s).1 is) ((texts_refused text f).1 refused)
-
--- ---- what an answer says of the text, where there may be no memory
-
--- the text's statement or fault, or want of memory
-abbrev pub IsAnswer : List ℕ → Result Statement ParseFault → Type 0
-IsAnswer text answer = Gives fault.NoMemory (λ s. s) answer (parsed text)
-
--- the statement is the text's
-pub answer_spelled : (text : List ℕ) (answer : Result Statement ParseFault) → IsAnswer text answer → IfOk answer (λ s. IsTextOf text s)
-answer_spelled text (Ok s) same = (texts_spelled text s).0 same
-answer_spelled text (Err f) is = tt
-
--- a text that spells a statement is read as no other, and is refused for want of memory alone
-pub answer_only : (text : List ℕ) (answer : Result Statement ParseFault) → IsAnswer text answer → (s : Statement) → IsTextOf text s →
-    MatchResult answer (λ found. found ≡ s) (λ f. f ≡ fault.NoMemory)
-answer_only text (Ok found) same s is = both_read (parsed text) found s same ((texts_spelled text s).1 is)
-answer_only text (Err f) (inl memory) s is = memory
-answer_only text (Err f) (inr refused) s is = absurd (read_and_refused (parsed text) s f ((texts_spelled text s).1 is) refused)
-
--- the fault is the text's
-pub answer_refused : (text : List ℕ) (answer : Result Statement ParseFault) → IsAnswer text answer → IfErr answer (λ f. (f ≡ fault.NoMemory) ⊎ IsRefused text f)
-answer_refused text (Ok s) same = tt
-answer_refused text (Err f) (inl memory) = inl memory
-answer_refused text (Err f) (inr refused) = inr ((texts_refused text f).0 refused)
-
--- a text that has a fault is read as no statement, and is refused with no other fault, want of memory apart
-pub answer_only_there : (text : List ℕ) (answer : Result Statement ParseFault) → IsAnswer text answer → (f : ParseFault) → IsRefused text f →
-    MatchResult answer (λ _. ⊥) (λ found. (found ≡ fault.NoMemory) ⊎ (found ≡ f))
-answer_only_there text (Ok s) same f is = read_and_refused (parsed text) s f same ((texts_refused text f).1 is)
-answer_only_there text (Err found) (inl memory) f is = inl memory
-answer_only_there text (Err found) (inr refused) f is = inr (both_refused (parsed text) found f refused ((texts_refused text f).1 is))
+-- what parsing a text gives tells the statement that it spells, or the fault that it has
+pub text_tells : (text : List ℕ) → Tells (Unit {0}) (parsed text) (IsTextOf text) (IsRefused text)
+text_tells text = record {
+  found = λ _ s. (texts_spelled text s).0;
+  only = λ s. (texts_spelled text s).1;
+  cause = λ _ f. (texts_refused text f).0;
+  refused = λ f. (texts_refused text f).1;
+}

@@ -38,6 +38,7 @@ abbrev pub Stops : List TokenKind → List TokenKind → Type 0
 Stops front [] = (statement : Statement) → IsSpelled front statement → ⊥
 Stops front (token ∷ more) = BeginsStatement (front ++ token ∷ []) → ⊥
 
+-- a statement begins with the tokens up to a place, and with none beyond them; so many are left there
 pub record IsStuck (tokens : List TokenKind) (left : ℕ) : Type 0 where
   pub front : List TokenKind
   pub rest : List TokenKind
@@ -59,6 +60,7 @@ since_operators n (mark ∷ marks) = since_operators (counted n mark.role) marks
     counted n Inside = n
     counted n Outside = 0
 
+-- opening parentheses since the last token that belongs to no expression, or since the beginning, where the count began with so many
 abbrev pub since_openings : ℕ → List Mark → ℕ
 since_openings n [] = n
 since_openings n (mark ∷ marks) = since_openings (counted n mark.role) marks

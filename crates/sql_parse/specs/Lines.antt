@@ -12,6 +12,7 @@ use Rattle.std.specs.Prelude.{◌≤◌, ℕ}
 use Rattle.sql_ast.specs.declared.ast.AstOp.TheVariants as op
 use Rattle.sql_parse.specs.Trees.{Tree, Int, Negative, Text, Truth, Null, Column, Paren, Minus, Infix, Not, IsNull, TakesSign}
 
+-- the lines of the grammar of expressions, one for each level of binding
 pub data Line : Type 0 where
   Expr : Line
   Both : Line

@@ -7,6 +7,7 @@ use Rattle.sql_lex.specs.declared.token.TokenKind.{TokenKind}
 abbrev pub kinds_of : List Token → List TokenKind
 kinds_of tokens = map (λ t. t.kind) tokens
 
+-- the place of the first token, and the text's end where there is none
 abbrev pub first_place : ℕ → List Token → ℕ
 first_place end [] = end
 first_place end (token ∷ more) = token.from

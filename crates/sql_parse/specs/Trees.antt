@@ -27,6 +27,7 @@ pub record Mark : Type 0 where
   pub kind : TokenKind
   pub role : Role
 
+-- a token that does this
 abbrev pub mark : Role → TokenKind → Mark
 mark role kind = record { kind = kind; role = role }
 
@@ -34,6 +35,7 @@ mark role kind = record { kind = kind; role = role }
 abbrev pub kinds : List Mark → List TokenKind
 kinds marks = map (λ m. m.kind) marks
 
+-- an expression as it is written: what an operand is, and each pair of parentheses
 pub data Tree : Type 0 where
   Int : ℕ → Tree
   -- a minus sign and an integer
@@ -63,9 +65,11 @@ column_kinds column = qualifier column.table ++ kind.Name column.name ∷ []
     qualifier None = []
     qualifier (Some table) = kind.Name table ∷ kind.Symbol symbol.Dot ∷ []
 
+-- tokens of an expression that are neither operators nor opening parentheses
 abbrev pub inside : List TokenKind → List Mark
 inside kinds = map (mark Inside) kinds
 
+-- the keyword of a truth
 abbrev pub truth_kind : Bool → TokenKind
 truth_kind true = kind.Keyword KTrue
 truth_kind false = kind.Keyword KFalse

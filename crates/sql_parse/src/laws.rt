@@ -1,6 +1,7 @@
 //! What texts are, in the terms of the grammar, and that the reader's steps come to the same.
 
-ghost use Rattle.std.specs.Prelude.{◌≡◌, ◌↔◌, ◌⊎◌, ℕ, List, Ok, Err};
+ghost use Rattle.std.specs.Prelude.{◌≡◌, ◌↔◌, ℕ, List, Ok, Err};
+ghost use Rattle.geo_base.specs.Results.{OneAnswer};
 ghost use Rattle.sql_ast.specs.declared.statement.Statement.{Statement};
 ghost use Rattle.sql_ast.specs.Printing.{printed};
 ghost use Rattle.sql_lex.specs.declared.token.TokenKind.{TokenKind};
@@ -13,14 +14,7 @@ ghost use Rattle.sql_parse.specs.Refusals.{IsTextOf, IsRefused};
 
 /// Every text spells a statement or has a fault: one of the two, and no other beside it.
 pub fn texts_have_one_answer()
-    ensures some { (text : List ℕ) →
-        ((statement : Statement) × IsTextOf text statement) ⊎ ((fault : ParseFault) × IsRefused text fault) }
-    ensures one_statement { (text : List ℕ) (statement other : Statement) →
-        IsTextOf text statement → IsTextOf text other → statement ≡ other }
-    ensures one_fault { (text : List ℕ) (fault other : ParseFault) →
-        IsRefused text fault → IsRefused text other → fault ≡ other }
-    ensures not_both { (text : List ℕ) (statement : Statement) (fault : ParseFault) →
-        IsTextOf text statement → IsRefused text fault → ⊥ }
+    ensures { (text : List ℕ) → OneAnswer (IsTextOf text) (IsRefused text) }
 {}
 
 /// The canonical text of a statement that a text spells spells that statement too.

@@ -1,10 +1,8 @@
 //! Parses a text.
 
-ghost use Rattle.std.specs.Prelude.{◌≡◌, ◌⊎◌, ◌<◌, ◌^◌, length, IfOk, IfErr, MatchResult};
-ghost use Rattle.geo_base.specs.Results.{Gives};
-ghost use Rattle.sql_ast.specs.declared.statement.Statement.{Statement};
+ghost use Rattle.std.specs.Prelude.{◌≡◌, ◌⊎◌, ◌<◌, ◌^◌, length, IfOk, IfErr};
+ghost use Rattle.geo_base.specs.Results.{Gives, Reads, Refuses};
 ghost use Rattle.sql_lex.specs.inner.Tokens.{tokens_of};
-ghost use Rattle.sql_parse.specs.declared.fault.ParseFault.{ParseFault};
 ghost use Rattle.sql_parse.specs.inner.Parsing as spec;
 ghost use Rattle.sql_parse.specs.Places as places;
 ghost use Rattle.sql_parse.specs.Refusals.{IsTextOf, IsRefused};
@@ -76,11 +74,9 @@ fn read_text(alloc: Global, text: &str) -> Result<Statement, ParseFault>
 pub fn parse(alloc: Global, text: &str) -> Result<Statement, ParseFault>
     requires { length text.now < 2 ^ 32 }
     ensures spelled { IfOk result (λ statement. IsTextOf text.now statement) }
-    ensures only { (statement : Statement) → IsTextOf text.now statement →
-        MatchResult result (λ found. found ≡ statement) (λ fault. fault ≡ ParseFault.NoMemory) }
-    ensures refused { IfErr result (λ fault. (fault ≡ ParseFault.NoMemory) ⊎ IsRefused text.now fault) }
-    ensures only_there { (fault : ParseFault) → IsRefused text.now fault →
-        MatchResult result (λ _. ⊥) (λ found. (found ≡ ParseFault.NoMemory) ⊎ (found ≡ fault)) }
+    ensures only { Reads ParseFault.NoMemory (λ statement. statement) result (IsTextOf text.now) }
+    ensures fault { IfErr result (λ fault. (fault ≡ ParseFault.NoMemory) ⊎ IsRefused text.now fault) }
+    ensures refused { Refuses ParseFault.NoMemory result (IsRefused text.now) }
 {
     read_text(alloc, text)
 }

@@ -1,10 +1,10 @@
 -- Laws: what the code cuts a text into is the one way to cut it, and it stops exactly where no token begins.
-use Rattle.std.proofs.Common.{◌≡◌, ◌<◌, ◌≤◌, ◌+◌, ◌-◌, ℕ, zero, suc, Bool, true, false, List, [], ◌∷◌, ◌++◌, length, drop, get_or, Option, Some, None, Result, Ok, Err, IfOk, IfErr, MatchResult, ◌⊎◌, inl, inr, refl, sym, ap, ◌∙◌, subst, arith, length-append, append_assoc, append-nil, add-zero}
+use Rattle.std.proofs.Common.{◌≡◌, ◌<◌, ◌≤◌, ◌+◌, ◌-◌, ℕ, zero, suc, Bool, true, false, List, [], ◌∷◌, ◌++◌, length, drop, get_or, Option, Some, None, Result, Ok, Err, ◌⊎◌, inl, inr, refl, sym, ap, ◌∙◌, subst, arith, length-append, append_assoc, append-nil, add-zero}
 use Rattle.std.proofs.Math.Seq.{drop-append_seam}
 use Rattle.std.proofs.lemmas.Bool.Decides.{nat_tests}
 use Rattle.std.specs.List.{list_all}
 use Rattle.std.specs.Char.{is_ascii_digit}
-use Rattle.geo_base.specs.Results.{Gives}
+use Rattle.geo_base.specs.laws.Answers.{Tells}
 use Rattle.sql_lex.specs.declared.symbol.Symbol.{Symbol}
 use Rattle.sql_lex.specs.declared.symbol.Symbol.TheVariants as symbol
 use Rattle.sql_lex.specs.declared.token.LexFault.{LexFault}
@@ -17,7 +17,7 @@ use Rattle.sql_lex.specs.Bytes.{is_blank, begins_word}
 use Rattle.sql_lex.specs.inner.Pieces.{piece, piece_of}
 use Rattle.sql_lex.specs.Symbols.{symbol_bytes}
 use Rattle.sql_lex.specs.inner.Tokens.{Tokens, token_at, before, first_and, tokens_from, tokens_of}
-use Rattle.sql_lex.specs.Grammar.{Spells, EndsAt, AreCutFrom, AreTokensOf, NoTokenBegins, StopsAt}
+use Rattle.sql_lex.specs.Grammar.{Spells, EndsAt, AreCutFrom, AreTokensOf, NoTokenBegins, StopsAt, IsLexFault}
 use Rattle.sql_lex.specs.laws.Fronts.{first_passes, rest_passes}
 use Rattle.sql_lex.specs.laws.Spellings.{IsAtFront, at_front}
 use Rattle.sql_lex.specs.laws.Taken.{first_of_append, taken}
@@ -309,12 +309,6 @@ cut_is_tokens text tokens cut =
     let place : length text + 0 ≡ 0 + length text = omega arith in
     cut_answer tokens 0 (length text) text [] cut place ∙ ap (joined tokens) (at_end (length text)) ∙ ap Ok (append-nil tokens)
 
-pub no_other_tokens : (text : List ℕ) (tokens found : List Token) → AreTokensOf tokens text → tokens_of text ≡ Ok found → found ≡ tokens
-no_other_tokens text tokens found cut e = let same : tokens_of text ≡ Ok tokens = cut_is_tokens text tokens cut in cc
-
-pub no_fault : (text : List ℕ) (tokens : List Token) (fault : LexFault) → AreTokensOf tokens text → tokens_of text ≡ Err fault → ⊥
-no_fault text tokens fault cut e = let same : tokens_of text ≡ Ok tokens = cut_is_tokens text tokens cut in cc
-
 pub fault_stops : (text : List ℕ) (fault : LexFault) → tokens_of text ≡ Err fault → (at : ℕ) × (fault ≡ BadText at) × StopsAt text at
 unfolding tokens_of
 fault_stops text fault e =
@@ -333,36 +327,15 @@ stop_is_fault text at stops =
     cut_answer stops.tokens 0 at text stops.rest stops.cut (omega (arith, stops.place))
     ∙ ap (joined stops.tokens) (at_fault at stops.rest stops.none.some stops.none.no_blank (no_piece stops.rest stops.none))
 
--- ---- what an answer says of the text, where there may be no memory
-
--- the text has no tokens from this place on, or there was no memory
-abbrev pub Stops : List ℕ → LexFault → Type 0
-Stops text fault = (fault ≡ NoMemory) ⊎ ((at : ℕ) × (fault ≡ BadText at) × StopsAt text at)
-
-module _ {X : Type 0} (view : X → List Token) (text : List ℕ) where
-  pub answer_cut : (answer : Result X LexFault) → Gives NoMemory view answer (tokens_of text) → IfOk answer (λ found. AreTokensOf (view found) text)
-  answer_cut (Ok found) is = tokens_are_cut text (view found) is
-  answer_cut (Err fault) is = tt
-
-  pub answer_only : (answer : Result X LexFault) → Gives NoMemory view answer (tokens_of text) → (tokens : List Token) → AreTokensOf tokens text →
-      MatchResult answer (λ found. view found ≡ tokens) (λ fault. fault ≡ NoMemory)
-  answer_only (Ok found) is tokens cut = no_other_tokens text tokens (view found) cut is
-  answer_only (Err fault) (inl memory) tokens cut = memory
-  answer_only (Err fault) (inr is) tokens cut = absurd (no_fault text tokens fault cut is)
-
-  pub answer_stops : (answer : Result X LexFault) → Gives NoMemory view answer (tokens_of text) → IfErr answer (Stops text)
-  answer_stops (Ok found) is = tt
-  answer_stops (Err fault) (inl memory) = inl memory
-  answer_stops (Err fault) (inr is) = inr (fault_stops text fault is)
-
-  pub answer_there : (answer : Result X LexFault) → Gives NoMemory view answer (tokens_of text) → (at : ℕ) → StopsAt text at →
-      MatchResult answer (λ found. ⊥) (λ fault. (fault ≡ NoMemory) ⊎ (fault ≡ BadText at))
-  answer_there (Ok found) is at stops = let there : tokens_of text ≡ Err (BadText at) = stop_is_fault text at stops in cc
-  answer_there (Err fault) (inl memory) at stops = inl memory
-  answer_there (Err fault) (inr is) at stops = let there : tokens_of text ≡ Err (BadText at) = stop_is_fault text at stops in inr cc
-
-  -- and what is said in the terms of the grammar is what the code's chain answers
-  pub answer_is : (answer : Result X LexFault) → IfOk answer (λ found. AreTokensOf (view found) text) → IfErr answer (Stops text) → Gives NoMemory view answer (tokens_of text)
-  answer_is (Ok found) cut stops = cut_is_tokens text (view found) cut
-  answer_is (Err fault) cut (inl memory) = inl memory
-  answer_is (Err fault) cut (inr stops) = inr (stop_is_fault text stops.0 stops.2 ∙ ap Err (sym stops.1))
+-- what cutting a text gives tells its tokens, or the fault that it has
+pub tokens_tell : (text : List ℕ) → Tells (Unit {0}) (tokens_of text) (λ tokens. AreTokensOf tokens text) (IsLexFault text)
+tokens_tell text = record {
+  found = λ _ tokens e. tokens_are_cut text tokens e;
+  only = λ tokens cut. cut_is_tokens text tokens cut;
+  cause = λ _ fault e. let stops = fault_stops text fault e in subst (IsLexFault text) (sym stops.1) stops.2;
+  refused = has_fault;
+}
+  where
+    has_fault : (fault : LexFault) → IsLexFault text fault → tokens_of text ≡ Err fault
+    has_fault (BadText at) stops = stop_is_fault text at stops
+    has_fault NoMemory none = absurd none

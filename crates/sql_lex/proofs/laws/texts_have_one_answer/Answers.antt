@@ -1,14 +1,6 @@
-use Rattle.sql_lex.proofs.OneAnswers.{cut_or_stops, cut_once, stops_once, not_cut_and_stopped}
+use Rattle.geo_base.specs.laws.Answers.{one_answer}
+use Rattle.sql_lex.specs.laws.Cuts.{tokens_tell}
 use Rattle.sql_lex.proofs.laws.texts_have_one_answer.Goals as goal
 
-pub returns-clause-some : goal.returns-clause-some
-returns-clause-some c = cut_or_stops
-
-pub returns-clause-one_list : goal.returns-clause-one_list
-returns-clause-one_list c = cut_once
-
-pub returns-clause-one_place : goal.returns-clause-one_place
-returns-clause-one_place c = stops_once
-
-pub returns-clause-not_both : goal.returns-clause-not_both
-returns-clause-not_both c = not_cut_and_stopped
+pub returns : goal.returns
+returns c = λ text. one_answer _ _ _ _ (tokens_tell text) (tt {0})
