@@ -1,6 +1,6 @@
 //! How cells and rows are written in texts.
 use crate::words::{cell_of, cells_of};
-use geo_base::{Printed, print_commas, print_row};
+use geo_base::{Printed, Txt, print_commas, print_row};
 use std::alloc::Global;
 use std::test::Fail;
 
@@ -54,6 +54,26 @@ fn rows_are_written(rt: HostRuntime) -> Result<(), Fail> {
     ] {
         let found = row_texts(rt.alloc(), words)?;
         assert_eq!(rt; found.as_str(), text, "{words}");
+    }
+    Ok(())
+}
+
+/// What the names are written as with commas.
+fn names_text(alloc: Global, names: &str) -> Result<String, Fail> {
+    let mut items = Vec::new(alloc);
+    for name in names.split(' ') {
+        items.push(Txt::new(alloc, name)?)?;
+    }
+    let mut out = String::new(alloc);
+    print_commas(&mut out, &items)?;
+    Ok(out)
+}
+
+#[test]
+fn names_are_written_as_they_are(rt: HostRuntime) -> Result<(), Fail> {
+    for (names, text) in [("a", "a"), ("acc o'né", "acc, o'né")] {
+        let found = names_text(rt.alloc(), names)?;
+        assert_eq!(rt; found.as_str(), text, "{names}");
     }
     Ok(())
 }

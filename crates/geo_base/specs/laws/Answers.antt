@@ -1,5 +1,5 @@
 -- Laws: what reading gives tells what stands in the input and which fault it has, in both directions, and so does what a call answers that gives what reading gives.
-use Rattle.std.proofs.Common.{◌≡◌, Result, Ok, Err, refl, sym, ap, ◌∙◌, ◌⊎◌, inl, inr}
+use Rattle.std.proofs.Common.{◌≡◌, Result, Ok, Err, refl, sym, ◌∙◌, ◌⊎◌, inl, inr}
 use Rattle.std.specs.Prelude.{IfOk, IfErr}
 use Rattle.geo_base.specs.Results.{Gives, Matches, Reads, Refuses, OneAnswer}
 use Rattle.geo_base.specs.laws.Results.{ok_is, fault_is, not_done}
