@@ -1,10 +1,11 @@
 -- Journals: what the regions have sealed, and the candidates of an epoch.
-use Rattle.std.specs.Prelude.{◌≡◌, ℕ, zero, suc, ◌+◌, ◌<◌, ◌≤◌, min, Option, Some, List, [], ◌∷◌, ◌++◌, length, All}
+use Rattle.std.specs.Prelude.{◌≡◌, ℕ, zero, suc, ◌+◌, ◌≤◌, min, Option, Some, List, [], ◌∷◌, ◌++◌, length, All}
 use Rattle.std.specs.List.{slice_get, filter_map}
 use Rattle.std.specs.Prelude.{slice_index_or}
-use Rattle.geo_base.specs.declared.limits.TheConstants.{MAX_REGIONS, MAX_AGE, MAX_CANDIDATES}
+use Rattle.geo_base.specs.declared.limits.TheConstants.{MAX_REGIONS}
 use Rattle.write_set.specs.declared.candidate.Candidate.{Candidate}
 use Rattle.write_set.specs.declared.batch.Batch.{Batch}
+use Rattle.write_set.specs.Bounds.{IsEarlier, IsYoung, AreSomeRows, IsCandidateCount}
 use Rattle.write_set.specs.Sets.{ChangeOfRow, IsWriteSet}
 
 -- for each region the list of its batches: the batch of epoch e stands at place e - 1
@@ -57,16 +58,16 @@ epochs_of journal (suc e) = candidates_of (batches_at journal e) ∷ epochs_of j
 
 -- a candidate that may stand in a batch of the epoch
 pub record IsCandidate (epoch : ℕ) (c : Candidate) : Type 0 where
-  pub earlier : c.start < epoch
-  pub young : epoch ≤ c.start + MAX_AGE
-  pub some : 1 ≤ length c.set
+  pub earlier : IsEarlier epoch c.start
+  pub young : IsYoung epoch c.start
+  pub some : AreSomeRows (length c.set)
   pub lawful : IsWriteSet c.set
 
 -- a batch of this region and epoch
 pub record IsBatch (of_region of_epoch : ℕ) (batch : Batch) : Type 0 where
   pub region : batch.region ≡ of_region
   pub epoch : batch.epoch ≡ of_epoch
-  pub few : length batch.items ≤ MAX_CANDIDATES
+  pub few : IsCandidateCount (length batch.items)
   pub lawful : All (IsCandidate of_epoch) batch.items
 
 -- one batch of the epoch for each region, from this region on

@@ -1,3 +1,4 @@
+pub mod Bounds
 pub mod Isolation
 pub mod Journal
 pub mod Merge

@@ -1,5 +1,5 @@
 -- The net write set of a transaction: what is left of its changes. `IsNet` is the description to believe.
-use Rattle.std.specs.Prelude.{◌≡◌, ◌⊎◌, ◌<◌, ◌≤◌, Bool, true, false, Option, Some, None, unwrap_or, if◌then◌else◌, List, [], ◌∷◌, ◌++◌, length, Contains}
+use Rattle.std.specs.Prelude.{◌≡◌, ◌⊎◌, ◌<◌, Bool, true, false, Option, Some, None, unwrap_or, if◌then◌else◌, List, [], ◌∷◌, ◌++◌, length, Contains}
 use Rattle.std.specs.Map.{lookup}
 use Rattle.std.specs.BTreeMap.{is_at}
 use Rattle.geo_base.specs.declared.limits.TheConstants.{MAX_SET_ROWS, MAX_SET_BYTES}
@@ -10,6 +10,7 @@ use Rattle.write_set.specs.declared.change.Change.TheVariants.{Put, Remove, Touc
 use Rattle.write_set.specs.declared.row_change.RowChange.{RowChange}
 use Rattle.write_set.specs.declared.set_fault.SetFault.{SetFault}
 use Rattle.write_set.specs.declared.set_fault.SetFault.TheVariants.{TooManyRows, TooLarge, NoMemory}
+use Rattle.write_set.specs.Bounds.{AreFewRows, IsSetSize}
 use Rattle.write_set.specs.Sets.{ChangeOfRow, Rises}
 use Rattle.write_set.specs.Sizes.{set_size}
 
@@ -47,13 +48,13 @@ HasTouchesOf set changes net = (row : RowId) → change_in net row ≡ Some Touc
 
 -- no more rows, and no more bytes of spelled changes, than a transaction may have
 pub record IsWithinLimits (net : List ChangeOfRow) : Type 0 where
-  pub few : length net ≤ MAX_SET_ROWS
-  pub small : set_size net ≤ MAX_SET_BYTES
+  pub few : AreFewRows (length net)
+  pub small : IsSetSize (set_size net)
 
 -- the limit that the net breaks: that of rows before that of bytes
 abbrev pub HasCause : SetFault → List ChangeOfRow → Type 0
 HasCause TooManyRows net = MAX_SET_ROWS < length net
-HasCause TooLarge net = (length net ≤ MAX_SET_ROWS) × (MAX_SET_BYTES < set_size net)
+HasCause TooLarge net = AreFewRows (length net) × (MAX_SET_BYTES < set_size net)
 HasCause NoMemory net = Unit {0}
 
 -- the net of the set and of the changes breaks that limit

@@ -1,11 +1,11 @@
 -- Write sets: lists of rows with what is done to each.
-use Rattle.std.specs.Prelude.{◌≤◌, Bool, true, false, ◌&&◌, List, length}
+use Rattle.std.specs.Prelude.{Bool, true, false, ◌&&◌, List, length}
 use Rattle.std.specs.List.{list_any}
 use Rattle.std.specs.List.Sorted.{IsStrictlySortedBy}
 use Rattle.std.specs.Map.{keys_of}
-use Rattle.geo_base.specs.declared.limits.TheConstants.{MAX_SET_ROWS}
 use Rattle.geo_base.specs.declared.row_id.RowId.{RowId}
 use Rattle.geo_base.specs.Order.{row_cmp, row_eq}
+use Rattle.write_set.specs.Bounds.{AreFewRows}
 use Rattle.write_set.specs.declared.change.Change.{Change}
 use Rattle.write_set.specs.declared.change.Change.TheVariants.{Put, Remove, Touch}
 
@@ -34,4 +34,4 @@ Rises entries = IsStrictlySortedBy row_cmp (keys_of entries)
 -- rows in rising order, each once, and no more than a transaction may have
 pub record IsWriteSet (set : List ChangeOfRow) : Type 0 where
   pub rising : Rises set
-  pub few : length set ≤ MAX_SET_ROWS
+  pub few : AreFewRows (length set)

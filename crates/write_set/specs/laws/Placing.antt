@@ -1,12 +1,12 @@
 -- Laws: the candidates of an epoch stand once each, and each is lawful.
-use Rattle.std.proofs.Common.{◌≡◌, true, ⊎_elim, ℕ, zero, suc, ◌+◌, ◌<◌, ◌≤◌, Option, None, Some, List, [], ◌∷◌, length, All, Contains, refl, sym, ap, ◌∙◌, subst, arith}
+use Rattle.std.proofs.Common.{◌≡◌, true, ⊎_elim, ℕ, zero, suc, ◌+◌, ◌≤◌, Option, None, Some, List, [], ◌∷◌, length, All, Contains, refl, sym, ap, ◌∙◌, subst, arith}
 use Rattle.std.specs.List.{slice_get, cons_option}
 use Rattle.std.proofs.lemmas.List.Elements.{All-head, All-tail, Contains-append_cases}
-use Rattle.geo_base.specs.declared.limits.TheConstants.{MAX_AGE}
 use Rattle.geo_base.specs.declared.claim.Claim.{Claim}
 use Rattle.geo_base.specs.declared.row_id.RowId.{RowId}
 use Rattle.write_set.specs.declared.candidate.Candidate.{Candidate}
 use Rattle.write_set.specs.declared.batch.Batch.{Batch}
+use Rattle.write_set.specs.Bounds.{IsEarlier, IsYoung, AreSomeRows}
 use Rattle.write_set.specs.Sets.{has_row, IsWriteSet}
 use Rattle.write_set.specs.Journal.{Journal, Placed, placed_from, candidates_of, batch_at, batches_at, epochs_of, IsCandidate, IsBatch, IsJournal}
 use Rattle.write_set.specs.Merge.{claim_of, committed, last_change, verdict_of, is_committed}
@@ -15,9 +15,9 @@ use Rattle.write_set.specs.laws.Rivals.{committed_claim}
 
 -- a candidate of the epoch, as it stands in its place
 pub record IsPlaced (epoch : ℕ) (c : Placed) : Type 0 where
-  pub earlier : c.start < epoch
-  pub young : epoch ≤ c.start + MAX_AGE
-  pub some : 1 ≤ length c.set
+  pub earlier : IsEarlier epoch c.start
+  pub young : IsYoung epoch c.start
+  pub some : AreSomeRows (length c.set)
   pub lawful : IsWriteSet c.set
 
 -- ---- one region's candidates
