@@ -63,6 +63,7 @@ abbrev pub verdict_of : (RowId → ℕ) → ℕ → List Placed → Placed → O
 verdict_of last epoch all c =
     changed_or last (beaten_or_committed last epoch all c (first_beaten last all c)) (first_changed last c)
 
+-- the candidate commits
 abbrev pub is_committed : Outcome → Bool
 is_committed Committed = true
 is_committed _ = false

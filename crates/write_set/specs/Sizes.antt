@@ -13,7 +13,8 @@ cell_size (cell.Int _) = 9
 cell_size (cell.Text text) = 3 + length text
 cell_size (cell.Truth _) = 1
 
--- the table, the kind of change, and the cells: those of a put's image, which has the key's cells too, so that the key and the other cells together are the image's; or those of the key alone
+-- the table, the kind of change, and the cells: those of a put's image, which has the key's cells too, so that the key and the other
+-- cells together are the image's; or those of the key alone
 abbrev pub change_size : ChangeOfRow → ℕ
 change_size (row, Put image) = 2 + sum_by cell_size image
 change_size (row, Remove) = 2 + sum_by cell_size row.key

@@ -45,8 +45,8 @@ impl WriteSet {
         }
     }
 
-    /// The set of this row alone: for a transaction whose one change is known to be left, as a put. Where the row may be one that the snapshot lacks and is removed, take
-    /// [`WriteSet::with`].
+    /// The set of this row alone: for a transaction whose one change is known to be left, as a put. Where
+    /// the row may be one that the snapshot lacks, and is removed or touched, take [`WriteSet::with`].
     pub fn one(alloc: Global, row: RowId, change: Change) -> Result<WriteSet, NoMemory>
         ensures { IfOk result (λ set. set ≡ (row, change) ∷ []) }
     {

@@ -1,5 +1,5 @@
 -- Laws: the touched rows of nets, and which changes touch known rows alone.
-use Rattle.std.proofs.Common.{◌≡◌, ◌⊎◌, inl, inr, ⊎_elim, Bool, true, false, cond, Option, None, Some, unwrap_or, List, [], ◌∷◌, ◌++◌, All, Contains, refl, sym, ap, ◌∙◌, subst}
+use Rattle.std.proofs.Common.{◌≡◌, ◌⊎◌, inl, inr, ⊎_elim, Bool, true, false, cond, Option, None, Some, unwrap_or, List, [], ◌∷◌, ◌++◌, All, Contains, refl, sym, ap, subst}
 use Rattle.std.proofs.lemmas.List.Elements.{All-head, All-tail}
 use Rattle.geo_base.specs.declared.row_id.RowId.{RowId}
 use Rattle.geo_base.specs.declared.row_image.RowImage.{RowImage}
@@ -7,7 +7,7 @@ use Rattle.geo_base.specs.Order.{row_eq}
 use Rattle.write_set.specs.declared.change.Change.{Change}
 use Rattle.write_set.specs.declared.change.Change.TheVariants.{Put, Remove, Touch}
 use Rattle.write_set.specs.declared.row_change.RowChange.{RowChange}
-use Rattle.write_set.specs.Net.{change_in, left_by, left_of, TouchesKnown}
+use Rattle.write_set.specs.Net.{left_by, left_of, TouchesKnown}
 use Rattle.write_set.specs.Sets.{ChangeOfRow}
 use Rattle.write_set.specs.laws.Among.{among_first, among_later}
 use Rattle.write_set.specs.laws.Rivals.{row_same}
