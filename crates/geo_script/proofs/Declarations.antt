@@ -12,7 +12,8 @@ use Rattle.geo_base.specs.laws.Results.{bind_ok}
 use Rattle.geo_schema.specs.declared.column.ColumnDef.{ColumnDef}
 use Rattle.geo_schema.specs.declared.index.IndexDef.{IndexDef}
 use Rattle.geo_schema.specs.declared.table.TableDef.{TableDef}
-use Rattle.geo_schema.specs.Schemas.{IsSchema, number_of, table_at}
+use Rattle.geo_schema.specs.Schemas.{IsSchema, shown_only, number_of}
+use Rattle.geo_schema.specs.Tables.{table_in}
 use Rattle.geo_schema.specs.inner.Schemas.{schema_fault}
 use Rattle.geo_script.specs.declared.column.Column.{Column}
 use Rattle.geo_script.specs.declared.fault.ScriptKind.{ScriptKind}
@@ -21,7 +22,7 @@ use Rattle.geo_script.specs.declared.mark.Mark.{Mark}
 use Rattle.geo_script.specs.declared.mark.Mark.TheVariants as mark
 use Rattle.geo_script.specs.inner.Marks.{marks_of, is_comma, is_close}
 use Rattle.geo_script.specs.Spelling.{SpellsColumn, IsNamedList, HasMarks, DeclaresTable, DeclaresIndex, AreAtPlaces, Declares}
-use Rattle.geo_script.specs.inner.TableLines.{column_of, before_close, listed, each, columns_of, table_of, if_schema, with_table, name_of, index_name, named_list, filled, first_word, index_parts, index_with, index_at, index_of, with_index, alone, declared, by_word, declared_by, table_line}
+use Rattle.geo_script.specs.inner.TableLines.{column_of, before_close, listed, all_read, columns_of, table_of, if_schema, with_table, name_of, index_name, named_list, filled, first_word, index_parts, index_with, index_at, index_of, with_index, alone, declared, by_word, declared_by, table_line}
 use Rattle.geo_script.specs.Tables.{table_with, column_place, add_index}
 use Rattle.geo_script.specs.inner.Words.{cut}
 use Rattle.geo_script.proofs.Closing.{closing}
@@ -85,9 +86,9 @@ record IsTableOf (marks : List Mark) (table : TableDef) : Type 0 where
   spells : IsNamedList SpellsColumn table.name columns marks
   is : table ≡ table_with table.name columns
 
-columns_are : (parts : List (List Mark)) (columns : List Column) → columns_of parts ≡ Some columns → each column_of parts ≡ Some columns
+columns_are : (parts : List (List Mark)) (columns : List Column) → columns_of parts ≡ Some columns → all_read column_of parts ≡ Some columns
 unfolding columns_of
-columns_are parts columns is = (when_some (nat_le (length parts) MAX_COLUMNS) (each column_of parts) columns is).1
+columns_are parts columns is = (when_some (nat_le (length parts) MAX_COLUMNS) (all_read column_of parts) columns is).1
 
 table_is : (marks : List Mark) (table : TableDef) → table_of marks ≡ Some table → IsTableOf marks table
 unfolding table_of
@@ -96,7 +97,7 @@ table_is (mark.Name name ∷ marks) table is =
     let parts = then_some columns_of (listed marks) found.0 found.1 in
     let list = listed_is marks parts.0 parts.1 in
     let columns = columns_are parts.0 found.0 parts.2 in
-    let items = items_are column_of SpellsColumn column_is list.inner found.0 (ap (each column_of) list.cut ∙ columns) in
+    let items = items_are column_of SpellsColumn column_is list.inner found.0 (ap (all_read column_of) list.cut ∙ columns) in
     subst (IsTableOf (mark.Name name ∷ marks)) found.2 record {
       columns = found.0;
       spells = (list.inner, ap (λ ms. mark.Name name ∷ ms) list.whole, items);
@@ -116,20 +117,20 @@ table_read name columns marks (inner, whole, items) few =
 
 record IsKept (tables more : List TableDef) : Type 0 where
   same : tables ≡ more
-  schema : IsSchema more
+  schema : IsSchema (shown_only more)
 
 kept_is : (kind : ScriptKind) (tables more : List TableDef) → if_schema kind tables ≡ Ok more → IsKept tables more
 kept_is kind tables more is =
-    let found = if_ok (is_none (schema_fault tables)) tables more kind is in
-    record { same = found.1; schema = subst IsSchema found.1 (faultless_kept tables found.0) }
+    let found = if_ok (is_none (schema_fault (shown_only tables))) tables more kind is in
+    record { same = found.1; schema = subst (λ ts. IsSchema (shown_only ts)) found.1 (faultless_kept tables found.0) }
 
-kept_read : (kind : ScriptKind) (tables : List TableDef) → IsSchema tables → if_schema kind tables ≡ Ok tables
+kept_read : (kind : ScriptKind) (tables : List TableDef) → IsSchema (shown_only tables) → if_schema kind tables ≡ Ok tables
 kept_read kind tables schema = rw (schema_faultless tables schema) refl
 
 -- ---- lines that declare tables
 
 table_declared : (tables : List TableDef) (text : List ℕ) (more : List TableDef) → with_table tables text ≡ Ok more →
-    Declares tables (codes "table " ++ text) more × IsSchema more
+    Declares tables (codes "table " ++ text) more × IsSchema (shown_only more)
 unfolding with_table
 table_declared tables text more is =
     let found = bind_ok (ok_or (option_and_then table_of (marks_of text)) BadTable) _ more is in
@@ -147,13 +148,13 @@ table_declared tables text more is =
     } in
     (inl (found.0, declares, sym kept.same), kept.schema)
 
-few_declared : (tables : List TableDef) (table : TableDef) (columns : List Column) → table ≡ table_with table.name columns → IsSchema (tables ++ table ∷ []) → length columns ≤ MAX_COLUMNS
+few_declared : (tables : List TableDef) (table : TableDef) (columns : List Column) → table ≡ table_with table.name columns → IsSchema (shown_only (tables ++ table ∷ [])) → length columns ≤ MAX_COLUMNS
 few_declared tables table columns is schema =
     let few = few_columns_at (tables ++ table ∷ []) (length tables) table schema (omega (arith, length-append tables (table ∷ []))) (sym (get_or_at tables table [] table (length tables) refl)) in
     let count : length table.columns ≡ length columns = ap (λ (t : TableDef). length t.columns) is ∙ length-map columns (λ (c : Column). c.def) in
     omega arith
 
-table_line_read : (tables : List TableDef) (line : List ℕ) (table : TableDef) → DeclaresTable line table → IsSchema (tables ++ table ∷ []) →
+table_line_read : (tables : List TableDef) (line : List ℕ) (table : TableDef) → DeclaresTable line table → IsSchema (shown_only (tables ++ table ∷ [])) →
     declared_by tables line ≡ Ok (tables ++ table ∷ [])
 unfolding declared_by with_table
 table_line_read tables line table is schema =
@@ -225,10 +226,10 @@ named_is : (marks : List Mark) (list : List ℕ × List (List ℕ)) → named_li
 unfolding named_list
 named_is (mark.Name name ∷ marks) list is =
     let IsItem : List ℕ → List Mark → Type 0 = λ n m. m ≡ mark.Name n ∷ [] in
-    let found = map_some (λ names. (name, names)) (option_and_then (each name_of) (listed marks)) list is in
-    let parts = then_some (each name_of) (listed marks) found.0 found.1 in
+    let found = map_some (λ names. (name, names)) (option_and_then (all_read name_of) (listed marks)) list is in
+    let parts = then_some (all_read name_of) (listed marks) found.0 found.1 in
     let in' = listed_is marks parts.0 parts.1 in
-    let items = items_are name_of IsItem name_is in'.inner found.0 (ap (each name_of) in'.cut ∙ parts.2) in
+    let items = items_are name_of IsItem name_is in'.inner found.0 (ap (all_read name_of) in'.cut ∙ parts.2) in
     subst (λ (l : List ℕ × List (List ℕ)). IsNamedList IsItem l.0 l.1 (mark.Name name ∷ marks)) found.2 (in'.inner, ap (λ ms. mark.Name name ∷ ms) in'.whole, items)
 named_is _ list is = cc
 
@@ -237,21 +238,21 @@ unfolding named_list
 named_read name names marks (inner, whole, items) =
     rw whole (rw (listed_read inner) (rw (items_read name_of (λ n m. m ≡ mark.Name n ∷ []) name_read name_free names inner items) refl))
 
-places_are : (columns : List ColumnDef) (names : List (List ℕ)) (places : List ℕ) → each (column_place columns) names ≡ Some places → AreAtPlaces columns names places
+places_are : (columns : List ColumnDef) (names : List (List ℕ)) (places : List ℕ) → all_read (column_place columns) names ≡ Some places → AreAtPlaces columns names places
 places_are columns [] places is = subst (AreAtPlaces columns []) (some_same is) tt
 places_are columns (name ∷ names) places is =
     let first = then_some _ (column_place columns name) places is in
-    let more = map_some (λ others. first.0 ∷ others) (each (column_place columns) names) places first.2 in
+    let more = map_some (λ others. first.0 ∷ others) (all_read (column_place columns) names) places first.2 in
     subst (AreAtPlaces columns (name ∷ names)) more.2 (first.1, places_are columns names more.0 more.1)
 
-places_read : (columns : List ColumnDef) (names : List (List ℕ)) (places : List ℕ) → AreAtPlaces columns names places → each (column_place columns) names ≡ Some places
+places_read : (columns : List ColumnDef) (names : List (List ℕ)) (places : List ℕ) → AreAtPlaces columns names places → all_read (column_place columns) names ≡ Some places
 places_read columns [] [] are = refl
 places_read columns [] (place ∷ places) are = absurd are
 places_read columns (name ∷ names) [] are = absurd are
 places_read columns (name ∷ names) (place ∷ places) are = rw are.0 (rw (places_read columns names places are.1) refl)
 
 index_declared : (tables : List TableDef) (text : List ℕ) (more : List TableDef) → with_index tables text ≡ Ok more →
-    Declares tables (codes "index " ++ text) more × IsSchema more
+    Declares tables (codes "index " ++ text) more × IsSchema (shown_only more)
 unfolding with_index index_of index_at
 index_declared tables text more is =
     let parts = bind_ok (index_parts text) _ more is in
@@ -262,8 +263,8 @@ index_declared tables text more is =
     let list = then_some _ (option_and_then named_list (marks_of parts.0.1)) found.0 name.2 in
     let marks = then_some named_list (marks_of parts.0.1) list.0 list.1 in
     let at = then_some _ (number_of tables list.0.0) found.0 list.2 in
-    let made = map_some (λ index. (at.0, index)) (option_map (index_with name.0) (each (column_place (table_at tables at.0).columns) list.0.1)) found.0 at.2 in
-    let places = map_some (index_with name.0) (each (column_place (table_at tables at.0).columns) list.0.1) made.0 made.1 in
+    let made = map_some (λ index. (at.0, index)) (option_map (index_with name.0) (all_read (column_place (table_in tables at.0).columns) list.0.1)) found.0 at.2 in
+    let places = map_some (index_with name.0) (all_read (column_place (table_in tables at.0).columns) list.0.1) made.0 made.1 in
     let kept = kept_is BadIndex (add_index tables found.0.0 found.0.1) more found.2 in
     let declares : DeclaresIndex tables (codes "index " ++ text) at.0 (index_with name.0 places.0) = record {
       text = parts.0.1;
@@ -275,13 +276,13 @@ index_declared tables text more is =
       tokens = marks_are parts.0.1 marks.0 marks.1;
       spells = named_is marks.0 list.0 marks.2;
       found = at.1;
-      places = places_are (table_at tables at.0).columns list.0.1 places.0 places.1;
+      places = places_are (table_in tables at.0).columns list.0.1 places.0 places.1;
     } in
     let same : (at.0, index_with name.0 places.0) ≡ found.0 = ap (λ i. (at.0, i)) places.2 ∙ made.2 in
     let added : add_index tables at.0 (index_with name.0 places.0) ≡ more = ap (λ (p : ℕ × IndexDef). add_index tables p.0 p.1) same ∙ kept.same in
     (inr (at.0, index_with name.0 places.0, declares, sym added), kept.schema)
 
-index_line_read : (tables : List TableDef) (line : List ℕ) (at : ℕ) (index : IndexDef) → DeclaresIndex tables line at index → IsSchema (add_index tables at index) →
+index_line_read : (tables : List TableDef) (line : List ℕ) (at : ℕ) (index : IndexDef) → DeclaresIndex tables line at index → IsSchema (shown_only (add_index tables at index)) →
     declared_by tables line ≡ Ok (add_index tables at index)
 unfolding declared_by with_index index_of index_at
 index_line_read tables line at index is schema =
@@ -289,23 +290,23 @@ index_line_read tables line at index is schema =
     rw is.cut (rw (cut_at 32 (codes "index") (index.name ++ (codes " on " ++ is.text)) refl)
     (rw (parts_read index.name is.text word.some word.lacks) (rw (index_name_read index.name is.name)
     (rw (marks_read is.text is.marks is.tokens) (rw (named_read is.table is.columns is.marks is.spells) (rw is.found
-    (rw (places_read (table_at tables at).columns is.columns index.columns is.places) (kept_read BadIndex (add_index tables at index) schema))))))))
+    (rw (places_read (table_in tables at).columns is.columns index.columns is.places) (kept_read BadIndex (add_index tables at index) schema))))))))
 
 -- ---- whole lines
 
 declared_is : (tables : List TableDef) (word rest : List ℕ) (more : List TableDef) → declared tables word rest ≡ Ok more →
-    Declares tables (word ++ 32 ∷ rest) more × IsSchema more
+    Declares tables (word ++ 32 ∷ rest) more × IsSchema (shown_only more)
 declared_is tables word rest more is = by (bytes_eq word (codes "table")) refl is
   where
-    index : (b : Bool) → bytes_eq word (codes "index") ≡ b → cond b (with_index tables rest) (Err BadLine) ≡ Ok more → Declares tables (word ++ 32 ∷ rest) more × IsSchema more
+    index : (b : Bool) → bytes_eq word (codes "index") ≡ b → cond b (with_index tables rest) (Err BadLine) ≡ Ok more → Declares tables (word ++ 32 ∷ rest) more × IsSchema (shown_only more)
     index true same found =
-        subst (λ w. Declares tables (w ++ 32 ∷ rest) more × IsSchema more) (sym ((bytes_eq-Decides word (codes "index")).0 same)) (index_declared tables rest more found)
+        subst (λ w. Declares tables (w ++ 32 ∷ rest) more × IsSchema (shown_only more)) (sym ((bytes_eq-Decides word (codes "index")).0 same)) (index_declared tables rest more found)
     index false other found = cc
 
     by : (b : Bool) → bytes_eq word (codes "table") ≡ b → cond b (with_table tables rest) (cond (bytes_eq word (codes "index")) (with_index tables rest) (Err BadLine)) ≡ Ok more →
-        Declares tables (word ++ 32 ∷ rest) more × IsSchema more
+        Declares tables (word ++ 32 ∷ rest) more × IsSchema (shown_only more)
     by true same found =
-        subst (λ w. Declares tables (w ++ 32 ∷ rest) more × IsSchema more) (sym ((bytes_eq-Decides word (codes "table")).0 same)) (table_declared tables rest more found)
+        subst (λ w. Declares tables (w ++ 32 ∷ rest) more × IsSchema (shown_only more)) (sym ((bytes_eq-Decides word (codes "table")).0 same)) (table_declared tables rest more found)
     by false other found = index (bytes_eq word (codes "index")) refl found
 
 alone_is_bad : (tables : List TableDef) (line : List ℕ) (more : List TableDef) → alone line ≡ Ok more → ⊥
@@ -317,17 +318,17 @@ alone_is_bad tables line more is = by (bytes_eq line (codes "table")) (bytes_eq 
     by false false found = cc
 
 by_word_is : (tables : List TableDef) (text : List ℕ) (more : List TableDef) (found : Option (List ℕ × List ℕ)) → cut 32 text ≡ found → by_word tables text found ≡ Ok more →
-    Declares tables text more × IsSchema more
+    Declares tables text more × IsSchema (shown_only more)
 by_word_is tables text more None is read = absurd (alone_is_bad tables text more read)
 by_word_is tables text more (Some parts) is read =
     let cut = cut_parts 32 text parts is in
-    subst (λ t. Declares tables t more × IsSchema more) (sym cut.whole) (declared_is tables parts.0 parts.1 more read)
+    subst (λ t. Declares tables t more × IsSchema (shown_only more)) (sym cut.whole) (declared_is tables parts.0 parts.1 more read)
 
 -- a line of which tables were read is a text, declares what it adds to them, and leaves a schema
 pub record IsHeadLine (tables : List TableDef) (line : List ℕ) (more : List TableDef) : Type 0 where
   pub utf8 : is_utf8 line ≡ true
   pub declares : Declares tables line more
-  pub schema : IsSchema more
+  pub schema : IsSchema (shown_only more)
 
 pub head_line_is : (tables : List TableDef) (line : List ℕ) (more : List TableDef) → table_line tables line ≡ Ok more → IsHeadLine tables line more
 unfolding table_line declared_by
@@ -342,9 +343,9 @@ head_line_read tables line more is = rw is.utf8 (by is.declares)
   where
     by : Declares tables line more → declared_by tables line ≡ Ok more
     by (inl (table, declares, same)) =
-        table_line_read tables line table declares (subst IsSchema same is.schema) ∙ ap Ok (sym same)
+        table_line_read tables line table declares (subst (λ ts. IsSchema (shown_only ts)) same is.schema) ∙ ap Ok (sym same)
     by (inr (at, index, declares, same)) =
-        index_line_read tables line at index declares (subst IsSchema same is.schema) ∙ ap Ok (sym same)
+        index_line_read tables line at index declares (subst (λ ts. IsSchema (shown_only ts)) same is.schema) ∙ ap Ok (sym same)
 
 -- the line that ends the head declares nothing
 pub begin_declares_nothing : (tables more : List TableDef) → Declares tables (codes "begin") more → ⊥

@@ -15,7 +15,7 @@ use Rattle.geo_script.specs.declared.script.Form.{Form}
 use Rattle.geo_script.specs.declared.script.Form.TheVariants.{Play, Run}
 use Rattle.geo_script.specs.declared.verb.Verb.{Verb}
 use Rattle.geo_script.specs.declared.verb.Verb.TheVariants as verb
-use Rattle.geo_script.specs.inner.EventLines.{OfLine, number, region, place, statement_parts, sql, after_words, fresh_region, crash_after, if_admitted, play_event, run_event, form_event, verb_and_rest, event_of, event_line}
+use Rattle.geo_script.specs.inner.EventLines.{OfLine, number_or_bad, region, place, statement_parts, sql, after_words, fresh_region, crash_after, if_admitted, play_event, run_event, form_event, verb_and_rest, event_of, event_line}
 use Rattle.geo_script.specs.EventWords.{verb_text}
 use Rattle.geo_script.specs.inner.Past.{RunPast, has_crash, has_session}
 use Rattle.geo_base.specs.Results.{◌>>=◌}
@@ -67,7 +67,7 @@ crash_after_asks regions lawful past rest asked is =
     let words = bind_ok (ok_or (after_words rest) BadLine) _ asked is in
     let text = after_are rest words.0 (or_ok (after_words rest) BadLine words.0 words.1) in
     let at = bind_ok (fresh_region past (region regions words.0.0)) _ asked words.2 in
-    let last = bind_ok (number 1 LAST_CRASH_EPOCH words.0.1) _ asked at.2 in
+    let last = bind_ok (number_or_bad 1 LAST_CRASH_EPOCH words.0.1) _ asked at.2 in
     let fresh = fresh_is past (region regions words.0.0) at.0 at.1 in
     let one = region_is regions lawful words.0.0 at.0 fresh.is in
     let epoch = number_is 1 LAST_CRASH_EPOCH words.0.1 last.0 (omega arith) last.1 in

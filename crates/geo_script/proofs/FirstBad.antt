@@ -6,6 +6,7 @@ use Rattle.std.proofs.lemmas.Bool.{leb-true, leb-false, le-leb, lt-leb}
 use Rattle.std.proofs.lemmas.List.{append-nil, append_assoc}
 use Rattle.geo_base.specs.declared.limits.TheConstants.{SCRIPT_BYTES}
 use Rattle.geo_schema.specs.declared.table.TableDef.{TableDef}
+use Rattle.geo_schema.specs.Schemas.{shown_only}
 use Rattle.geo_script.specs.declared.fault.ScriptFault.{ScriptFault}
 use Rattle.geo_script.specs.declared.fault.ScriptKind.{ScriptKind}
 use Rattle.geo_script.specs.declared.fault.ScriptKind.TheVariants.{BadHeader, TooLong}
@@ -42,7 +43,7 @@ nothing_lawful form = lawful_from form [] tt
 head_begins : (form : Form) (regions : ℕ) (body : List (List ℕ)) (tables : List TableDef) → IsRegions regions → AreDeclared [] (spoken_from 3 body) tables →
     BeginsScript form (title form ∷ (codes "regions " ++ decimal regions) ∷ body)
 head_begins form regions body tables lawful declared =
-    let script : Script = record { regions = regions; schema = tables; events = [] } in (
+    let script : Script = record { regions = regions; schema = shown_only tables; events = [] } in (
       codes "begin" ∷ [],
       script,
       record {
@@ -50,11 +51,13 @@ head_begins form regions body tables lawful declared =
         heads = spoken_from 3 body;
         number = 3 + length body;
         tails = [];
+        tables = tables;
         cut = refl;
         some = lawful.some;
         few = lawful.few;
         begins = spoken_at 3 body (codes "begin") [] begin_speaks;
-        tables = declared;
+        declared = declared;
+        schema = refl;
         events = tt;
         lawful = nothing_lawful form;
       },
@@ -80,18 +83,20 @@ events_begin : (form : Form) (regions number : ℕ) (body : List (List ℕ)) (he
     spoken_from 3 body ≡ heads ++ (number, codes "begin") ∷ tails → AreDeclared [] heads tables → AreEventLines form regions tails events → IsLawful form events →
     BeginsScript form (title form ∷ (codes "regions " ++ decimal regions) ∷ body)
 events_begin form regions number body heads tails tables events lawful begins declared typed may =
-    let script : Script = record { regions = regions; schema = tables; events = events } in
+    let script : Script = record { regions = regions; schema = shown_only tables; events = events } in
     let lines : List (List ℕ) = title form ∷ (codes "regions " ++ decimal regions) ∷ body in
     let is : IsScript form lines script = record {
       body = body;
       heads = heads;
       number = number;
       tails = tails;
+      tables = tables;
       cut = refl;
       some = lawful.some;
       few = lawful.few;
       begins = begins;
-      tables = declared;
+      declared = declared;
+      schema = refl;
       events = typed;
       lawful = may;
     } in
@@ -248,7 +253,7 @@ in_events form first second body fault regions tables tails title count lawful h
 
 -- the script of a head and events
 abbrev script_with : ℕ → List TableDef → List EventAt → Script
-script_with regions tables events = record { regions = regions; schema = tables; events = events }
+script_with regions tables events = record { regions = regions; schema = shown_only tables; events = events }
 
 in_body : (form : Form) (first second : List ℕ) (body : List (List ℕ)) (fault : ScriptFault) (regions : ℕ) → first ≡ title form → second ≡ codes "regions " ++ decimal regions → IsRegions regions →
     script_of_lines form (first ∷ second ∷ body) ≡ Err fault → body_of form regions body ≡ Err fault → IsFirstBad form (first ∷ second ∷ body) fault

@@ -10,7 +10,7 @@ use Rattle.geo_script.specs.declared.mark.Mark.{Mark}
 use Rattle.geo_script.specs.declared.mark.Mark.TheVariants as mark
 use Rattle.geo_script.specs.inner.Marks.{is_comma}
 use Rattle.geo_script.specs.Spelling.{SpellsKind, if_so, SpellsColumn, AreItems}
-use Rattle.geo_script.specs.inner.TableLines.{sized, each}
+use Rattle.geo_script.specs.inner.TableLines.{sized, all_read}
 use Rattle.geo_script.proofs.Inversions.{then_some, map_some, some_same}
 
 -- ---- lists
@@ -86,7 +86,7 @@ module _ {A : Type 0} (of : List Mark → Option A) (IsItem : A → List Mark �
   abbrev pub Reads : Type 0
   Reads = (marks : List Mark) (item : A) → of marks ≡ Some item → IsItem item marks
 
-  items_of_parts : Reads → (parts : List (List Mark)) (items : List A) → 0 < length parts → each of parts ≡ Some items → AreItems IsItem items (joined parts)
+  items_of_parts : Reads → (parts : List (List Mark)) (items : List A) → 0 < length parts → all_read of parts ≡ Some items → AreItems IsItem items (joined parts)
   items_of_parts reads [] items some is = absurd (omega arith)
   items_of_parts reads (part ∷ []) items some is =
       let first = then_some _ (of part) items is in
@@ -94,7 +94,7 @@ module _ {A : Type 0} (of : List Mark → Option A) (IsItem : A → List Mark �
       subst (λ all. AreItems IsItem all part) same (reads part first.0 first.1)
   items_of_parts reads (part ∷ next ∷ parts) items some is =
       let first = then_some _ (of part) items is in
-      let more = map_some (λ others. first.0 ∷ others) (each of (next ∷ parts)) items first.2 in
+      let more = map_some (λ others. first.0 ∷ others) (all_read of (next ∷ parts)) items first.2 in
       let others = items_of_parts reads (next ∷ parts) more.0 (omega arith) more.1 in
       subst (λ all. AreItems IsItem all (joined (part ∷ next ∷ parts))) more.2
       (onto first.0 more.0 part (joined (next ∷ parts)) (reads part first.0 first.1) others)
@@ -103,12 +103,12 @@ module _ {A : Type 0} (of : List Mark → Option A) (IsItem : A → List Mark �
       onto item [] front rest one others = absurd others
       onto item (other ∷ items) front rest one others = (front, rest, refl, one, others)
 
-  pub items_are : Reads → (marks : List Mark) (items : List A) → each of (slice_split is_comma marks) ≡ Some items → AreItems IsItem items marks
+  pub items_are : Reads → (marks : List Mark) (items : List A) → all_read of (slice_split is_comma marks) ≡ Some items → AreItems IsItem items marks
   items_are reads marks items is =
       subst (AreItems IsItem items) (split_joined marks) (items_of_parts reads (slice_split is_comma marks) items (some_parts marks) is)
 
   pub items_read : ((marks : List Mark) (item : A) → IsItem item marks → of marks ≡ Some item) → ((item : A) (marks : List Mark) → IsItem item marks → IsCommaFree marks) →
-      (items : List A) (marks : List Mark) → AreItems IsItem items marks → each of (slice_split is_comma marks) ≡ Some items
+      (items : List A) (marks : List Mark) → AreItems IsItem items marks → all_read of (slice_split is_comma marks) ≡ Some items
   items_read reads free [] marks are = absurd are
   items_read reads free (item ∷ []) marks are = rw (split_free marks (free item marks are)) (rw (reads marks item are) refl)
   items_read reads free (item ∷ next ∷ items) marks (first, more, whole, one, others) =

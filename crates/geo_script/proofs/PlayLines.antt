@@ -18,7 +18,7 @@ use Rattle.geo_script.specs.declared.fault.ScriptKind.TheVariants.{BadLine, BadN
 use Rattle.geo_script.specs.declared.limits.TheConstants.{STATEMENT_BYTES, SEATS_PER_ROUND, LAST_ASKED_EPOCH, LAST_PACKET}
 use Rattle.geo_script.specs.declared.script.Form.{Form}
 use Rattle.geo_script.specs.declared.script.Form.TheVariants.{Play, Run}
-use Rattle.geo_script.specs.inner.EventLines.{number, region, place, statement_parts, sql, outcome, only_region, packet_words, deliver, fetch, work, sealing_of, crash_words, crash}
+use Rattle.geo_script.specs.inner.EventLines.{number_or_bad, region, place, statement_parts, sql, outcome, only_region, packet_words, deliver, fetch, work, sealing_of, crash_words, crash}
 use Rattle.geo_script.specs.Spelling.{session_text, sealing_text, Types, IsWithin, IsOfForm}
 use Rattle.geo_base.specs.Results.{◌>>=◌}
 use Rattle.geo_script.specs.inner.Words.{cut, two_words, three_words, number_within}
@@ -40,7 +40,7 @@ pub record Asks (form : Form) (regions : ℕ) (line : List ℕ) (asked : Event) 
 
 -- ---- numbers
 
-pub number_is : (least most : ℕ) (word : List ℕ) (n : ℕ) → most < 2 ^ 32 → number least most word ≡ Ok n → SpellsWithin least most word n
+pub number_is : (least most : ℕ) (word : List ℕ) (n : ℕ) → most < 2 ^ 32 → number_or_bad least most word ≡ Ok n → SpellsWithin least most word n
 number_is least most word n fits is = number_spelled least most word n fits (or_ok (number_within least most word) BadNumber n is)
 
 pub record SpellsRegion (regions : ℕ) (word : List ℕ) (at : ℕ) : Type 0 where
@@ -63,7 +63,7 @@ place_is regions lawful word at is =
     let cuts = bind_ok (ok_or (cut 46 word) BadNumber) _ at is in
     let found = cut_parts 46 word cuts.0 (or_ok (cut 46 word) BadNumber cuts.0 cuts.1) in
     let first = bind_ok (region regions cuts.0.0) _ at cuts.2 in
-    let second = bind_ok (number 0 (SESSIONS_PER_REGION - 1) cuts.0.1) _ at first.2 in
+    let second = bind_ok (number_or_bad 0 (SESSIONS_PER_REGION - 1) cuts.0.1) _ at first.2 in
     let one = region_is regions lawful cuts.0.0 first.0 first.1 in
     let other = number_is 0 (SESSIONS_PER_REGION - 1) cuts.0.1 second.0 (omega arith) second.1 in
     let same : (first.0, second.0) ≡ at = cc in
@@ -208,8 +208,8 @@ pub deliver_asks : (regions : ℕ) (rest : List ℕ) (asked : Event) → deliver
 unfolding deliver
 deliver_asks regions rest asked is =
     let words = bind_ok (ok_or (packet_words rest) BadLine) _ asked is in
-    let first = bind_ok (number 0 LAST_PACKET words.0.0) _ asked words.2 in
-    let last = bind_ok (number 0 LAST_PACKET words.0.1) _ asked first.2 in
+    let first = bind_ok (number_or_bad 0 LAST_PACKET words.0.0) _ asked words.2 in
+    let last = bind_ok (number_or_bad 0 LAST_PACKET words.0.1) _ asked first.2 in
     let one = number_is 0 LAST_PACKET words.0.0 first.0 (omega arith) first.1 in
     let other = number_is 0 LAST_PACKET words.0.1 last.0 (omega arith) last.1 in
     let fits = if_ok (nat_le first.0 last.0 && nat_lt (last.0 - first.0) PACKETS_PER_LINE) (event.Deliver first.0 last.0) asked BadNumber last.2 in
@@ -229,7 +229,7 @@ fetch_asks regions lawful rest asked is =
     let found = three_are rest words.0 (or_ok (three_words rest) BadLine words.0 words.1) in
     let from = bind_ok (region regions words.0.0) _ asked words.2 in
     let of = bind_ok (region regions words.0.1) _ asked from.2 in
-    let last = bind_ok (number 1 LAST_ASKED_EPOCH words.0.2) _ asked of.2 in
+    let last = bind_ok (number_or_bad 1 LAST_ASKED_EPOCH words.0.2) _ asked of.2 in
     let one = region_is regions lawful words.0.0 from.0 from.1 in
     let other = region_is regions lawful words.0.1 of.0 of.1 in
     let epoch = number_is 1 LAST_ASKED_EPOCH words.0.2 last.0 (omega arith) last.1 in
@@ -249,7 +249,7 @@ work_asks regions lawful rest asked is =
     let words = bind_ok (ok_or (two_words rest) BadLine) _ asked is in
     let found = two_are rest words.0 (or_ok (two_words rest) BadLine words.0 words.1) in
     let at = bind_ok (region regions words.0.0) _ asked words.2 in
-    let seat = bind_ok (number 0 (SEATS_PER_ROUND - 1) words.0.1) _ asked at.2 in
+    let seat = bind_ok (number_or_bad 0 (SEATS_PER_ROUND - 1) words.0.1) _ asked at.2 in
     let one = region_is regions lawful words.0.0 at.0 at.1 in
     let other = number_is 0 (SEATS_PER_ROUND - 1) words.0.1 seat.0 (omega arith) seat.1 in
     let same : event.Work at.0 seat.0 ≡ asked = cc in

@@ -16,7 +16,7 @@ use Rattle.geo_script.specs.declared.script.EventAt.{EventAt}
 use Rattle.geo_script.specs.declared.script.Form.{Form}
 use Rattle.geo_script.specs.declared.script.Form.TheVariants.{Play, Run}
 use Rattle.geo_script.specs.inner.Past.{RunPast, nothing_yet, same_session, has_session, with_session, with_event, next_past}
-use Rattle.geo_script.specs.Spelling.{session_of, crashed_of, along, IsLawful}
+use Rattle.geo_script.specs.Spelling.{sessions_of, crashed_of, along, IsLawful}
 use Rattle.geo_script.proofs.EventsSpelled.{IsAdmitted}
 
 -- each event may stand behind those before it
@@ -93,7 +93,7 @@ record AreAmongFew (known : List (ℕ × ℕ)) (events : List EventAt) : Type 0 
   all : List (ℕ × ℕ)
   few : length all ≤ SESSIONS_PER_RUN
   before : All (Contains all) known
-  after : All (Contains all) (along session_of events)
+  after : All (Contains all) (along sessions_of events)
 
 all_front : (P : ℕ × ℕ → Type 0) (xs ys : List (ℕ × ℕ)) → All P (xs ++ ys) → All P xs
 all_front P xs ys all = λ k d within. subst P (get_or_append_left xs ys d k within) (all k d (omega (arith, length-append xs ys)))
@@ -109,12 +109,12 @@ record IsAmongFew (known : List (ℕ × ℕ)) (asked : Event) (events : List Eve
   all : List (ℕ × ℕ)
   few : length all ≤ SESSIONS_PER_RUN
   before : All (Contains all) known
-  after : All (Contains all) (session_of asked ++ along session_of events)
+  after : All (Contains all) (sessions_of asked ++ along sessions_of events)
 
 -- the event is no statement
 record IsNoStatement (past : RunPast) (asked : Event) : Type 0 where
   same : (with_event past asked).sessions ≡ past.sessions
-  none : session_of asked ≡ []
+  none : sessions_of asked ≡ []
 
 without_one : (past : RunPast) (asked : Event) (events : List EventAt) → IsNoStatement past asked → length past.sessions ≤ SESSIONS_PER_RUN →
     (length (with_event past asked).sessions ≤ SESSIONS_PER_RUN → AreAmongFew (with_event past asked).sessions events) → IsAmongFew past.sessions asked events
@@ -124,7 +124,7 @@ without_one past asked events other few later =
       all = found.all;
       few = found.few;
       before = subst (All (Contains found.all)) other.same found.before;
-      after = subst (λ l. All (Contains found.all) (l ++ along session_of events)) (sym other.none) found.after;
+      after = subst (λ l. All (Contains found.all) (l ++ along sessions_of events)) (sym other.none) found.after;
     }
 
 known_one : (past : RunPast) (region number : ℕ) (text : List ℕ) (events : List EventAt) → has_session past region number ≡ true → length past.sessions ≤ SESSIONS_PER_RUN →
@@ -139,7 +139,7 @@ known_one past region number text events known few later =
       all = found.all;
       few = found.few;
       before = before;
-      after = All-append (Contains found.all) ((region, number) ∷ []) (along session_of events) (one (Contains found.all) (region, number) (All-contains (Contains found.all) past.sessions (region, number) before here)) found.after;
+      after = All-append (Contains found.all) ((region, number) ∷ []) (along sessions_of events) (one (Contains found.all) (region, number) (All-contains (Contains found.all) past.sessions (region, number) before here)) found.after;
     }
 
 new_one : (past : RunPast) (region number : ℕ) (text : List ℕ) (events : List EventAt) → has_session past region number ≡ false → length past.sessions < SESSIONS_PER_RUN →
@@ -154,7 +154,7 @@ new_one past region number text events unknown room later =
       all = found.all;
       few = found.few;
       before = all_front (Contains found.all) past.sessions (at ∷ []) before;
-      after = All-append (Contains found.all) (at ∷ []) (along session_of events)
+      after = All-append (Contains found.all) (at ∷ []) (along sessions_of events)
           (one (Contains found.all) at (All-contains (Contains found.all) (past.sessions ++ at ∷ []) at before (Contains-push past.sessions at))) found.after;
     }
 
@@ -189,7 +189,7 @@ sessions_from past (first ∷ events) admitted few =
 record IsLawfulAfter (past : RunPast) (all : List (ℕ × ℕ)) (events : List EventAt) : Type 0 where
   crashes : IsDistinct nat_eq (past.crashed ++ along crashed_of events)
   few : length all ≤ SESSIONS_PER_RUN
-  sessions : All (Contains all) (along session_of events)
+  sessions : All (Contains all) (along sessions_of events)
   distinct : IsDistinct same_session past.sessions
   before : All (Contains all) past.sessions
 
@@ -215,12 +215,12 @@ statement_step : (past : RunPast) (all : List (ℕ × ℕ)) (region number : ℕ
 statement_step past all region number text at events is lawful =
     let x : ℕ × ℕ = (region, number) in
     let crashes = subst (λ e. IsDistinct nat_eq (past.crashed ++ (crashed_of e ++ along crashed_of events))) is lawful.crashes in
-    let sessions = subst (λ e. All (Contains all) (session_of e ++ along session_of events)) is lawful.sessions in
-    let rest = all_back (Contains all) (x ∷ []) (along session_of events) sessions in
-    let here = first_of (Contains all) x (along session_of events) sessions in
+    let sessions = subst (λ e. All (Contains all) (sessions_of e ++ along sessions_of events)) is lawful.sessions in
+    let rest = all_back (Contains all) (x ∷ []) (along sessions_of events) sessions in
+    let here = first_of (Contains all) x (along sessions_of events) sessions in
     by x crashes rest here (has_session past region number) refl
   where
-    by : (x : ℕ × ℕ) → IsDistinct nat_eq (past.crashed ++ along crashed_of events) → All (Contains all) (along session_of events) → Contains all (region, number) →
+    by : (x : ℕ × ℕ) → IsDistinct nat_eq (past.crashed ++ along crashed_of events) → All (Contains all) (along sessions_of events) → Contains all (region, number) →
         (b : Bool) → has_session past region number ≡ b → IsStep past all (event.Sql region number text) events
     by x crashes rest here true known =
         let same : with_session past region number ≡ past = rw known refl in
@@ -244,7 +244,7 @@ crash_step : (past : RunPast) (all : List (ℕ × ℕ)) (region epoch : ℕ) (at
     IsLawfulAfter past all (at ∷ events) → IsStep past all (event.CrashAfter region epoch) events
 crash_step past all region epoch at events is lawful =
     let crashes = subst (λ e. IsDistinct nat_eq (past.crashed ++ (crashed_of e ++ along crashed_of events))) is lawful.crashes in
-    let sessions = subst (λ e. All (Contains all) (session_of e ++ along session_of events)) is lawful.sessions in
+    let sessions = subst (λ e. All (Contains all) (sessions_of e ++ along sessions_of events)) is lawful.sessions in
     record {
       admitted = behind_others past.crashed (along crashed_of events) region crashes;
       after = record {
@@ -258,13 +258,13 @@ crash_step past all region epoch at events is lawful =
 
 -- an event that is neither a statement nor a crash changes nothing
 other_step : (past : RunPast) (all : List (ℕ × ℕ)) (asked : Event) (at : EventAt) (events : List EventAt) → at.event ≡ asked → IsAdmitted Run past asked →
-    with_event past asked ≡ past → crashed_of asked ≡ [] → session_of asked ≡ [] → IsLawfulAfter past all (at ∷ events) → IsStep past all asked events
+    with_event past asked ≡ past → crashed_of asked ≡ [] → sessions_of asked ≡ [] → IsLawfulAfter past all (at ∷ events) → IsStep past all asked events
 other_step past all asked at events is admitted same no_crash no_session lawful = record {
   admitted = admitted;
   after = subst (λ p. IsLawfulAfter p all events) (sym same) record {
     crashes = subst (λ l. IsDistinct nat_eq (past.crashed ++ (l ++ along crashed_of events))) (ap crashed_of is ∙ no_crash) lawful.crashes;
     few = lawful.few;
-    sessions = subst (λ l. All (Contains all) (l ++ along session_of events)) (ap session_of is ∙ no_session) lawful.sessions;
+    sessions = subst (λ l. All (Contains all) (l ++ along sessions_of events)) (ap sessions_of is ∙ no_session) lawful.sessions;
     distinct = lawful.distinct;
     before = lawful.before;
   };

@@ -12,12 +12,13 @@ use Rattle.std.proofs.lemmas.Fmt.{IsAscii-decimal}
 use Rattle.geo_base.specs.declared.limits.TheConstants.{MAX_REGIONS, SCRIPT_BYTES}
 use Rattle.geo_base.specs.laws.Results.{bind_ok}
 use Rattle.geo_schema.specs.declared.table.TableDef.{TableDef}
+use Rattle.geo_schema.specs.Schemas.{shown_only}
 use Rattle.geo_script.specs.declared.fault.ScriptKind.TheVariants.{NotUtf8, BadHeader, BadNumber, TooLong}
 use Rattle.geo_script.specs.declared.script.EventAt.{EventAt}
 use Rattle.geo_script.specs.declared.script.Form.{Form}
 use Rattle.geo_script.specs.declared.script.Form.TheVariants.{Play, Run}
 use Rattle.geo_script.specs.declared.script.Script.{Script}
-use Rattle.geo_script.specs.inner.EventLines.{OfLine, number, event_line}
+use Rattle.geo_script.specs.inner.EventLines.{OfLine, number_or_bad, event_line}
 use Rattle.geo_script.specs.Lines.{lines_of, spoken_from}
 use Rattle.geo_script.specs.inner.Past.{RunPast, nothing_yet, next_past}
 use Rattle.geo_script.specs.inner.Scripts.{bad, at, title_line, regions_word, regions_line, head_of, events_of, body_of, script_of_lines, script_of}
@@ -156,7 +157,7 @@ pub regions_is : (line : List ℕ) (regions : ℕ) → regions_line line ≡ Ok 
 unfolding regions_line regions_word
 regions_is line regions is =
     let text = when_ok (is_utf8 line) _ regions NotUtf8 is in
-    let word = bind_ok (ok_or (cut 32 line) BadHeader >>= λ parts. cond (bytes_eq parts.0 (codes "regions") && is_word parts.1) (Ok parts.1) (Err BadHeader)) (number 1 MAX_REGIONS) regions text.1 in
+    let word = bind_ok (ok_or (cut 32 line) BadHeader >>= λ parts. cond (bytes_eq parts.0 (codes "regions") && is_word parts.1) (Ok parts.1) (Err BadHeader)) (number_or_bad 1 MAX_REGIONS) regions text.1 in
     let parts = bind_ok (ok_or (cut 32 line) BadHeader) _ word.0 word.1 in
     let found = cut_parts 32 line parts.0 (or_ok (cut 32 line) BadHeader parts.0 parts.1) in
     let kept = if_ok (bytes_eq parts.0.0 (codes "regions") && is_word parts.0.1) parts.0.1 word.0 BadHeader parts.2 in
@@ -188,18 +189,20 @@ body_is form regions body script lawful is =
     let tables = head_is (3 + length body) [] (spoken_from 3 body) head.0 head.1 in
     let events = bind_ok (events_of form regions nothing_yet head.0.1) _ script head.2 in
     let lines = events_are form regions lawful nothing_yet head.0.1 events.0 events.1 in
-    let made : Script = record { regions = regions; schema = head.0.0; events = events.0 } in
+    let made : Script = record { regions = regions; schema = shown_only head.0.0; events = events.0 } in
     let same : made ≡ script = cc in
     subst (IsScript form (title form ∷ (codes "regions " ++ decimal regions) ∷ body)) same record {
       body = body;
       heads = tables.heads;
       number = tables.number;
       tails = head.0.1;
+      tables = head.0.0;
       cut = refl;
       some = lawful.some;
       few = lawful.few;
       begins = tables.whole;
-      tables = tables.declared;
+      declared = tables.declared;
+      schema = refl;
       events = lines.typed;
       lawful = lawful_from form events.0 lines.admitted;
     }
@@ -220,8 +223,8 @@ pub lines_read : (form : Form) (lines : List (List ℕ)) (script : Script) → I
 unfolding script_of_lines body_of
 lines_read form lines script is =
     let lawful : IsRegions script.regions = record { some = is.some; few = is.few } in
-    rw is.cut (rw (title_read form) (rw (regions_read script.regions lawful) (rw is.begins (rw (head_read (3 + length is.body) is.number [] script.schema is.heads is.tails is.tables)
-    (rw (events_read form script.regions lawful nothing_yet is.tails script.events is.events (admitted_from form script.events is.lawful)) refl)))))
+    rw is.cut (rw (title_read form) (rw (regions_read script.regions lawful) (rw is.begins (rw (head_read (3 + length is.body) is.number [] is.tables is.heads is.tails is.declared)
+    (rw (events_read form script.regions lawful nothing_yet is.tails script.events is.events (admitted_from form script.events is.lawful)) (rw is.schema refl))))))
 
 pub script_is : (form : Form) (bytes : List ℕ) (script : Script) → script_of form bytes ≡ Ok script → IsScriptText form bytes script
 unfolding script_of

@@ -14,7 +14,7 @@ use Rattle.geo_script.specs.declared.script.EventAt.{EventAt}
 use Rattle.geo_script.specs.declared.script.Form.{Form}
 use Rattle.geo_script.specs.declared.script.Form.TheVariants.{Play, Run}
 use Rattle.geo_script.specs.inner.Past.{RunPast, nothing_yet, has_crash, has_session, with_event, past_behind}
-use Rattle.geo_script.specs.Spelling.{session_of, crashed_of, along, AreFewSessions, IsLawful}
+use Rattle.geo_script.specs.Spelling.{sessions_of, crashed_of, along, AreFewSessions, IsLawful}
 use Rattle.geo_script.proofs.EventsSpelled.{IsAdmitted}
 use Rattle.geo_script.proofs.Runs.{AreAdmitted, behind_others, lawful_from, admitted_from}
 
@@ -61,7 +61,7 @@ crash_kept events lawful at is = by (list_any (nat_eq at) (along crashed_of even
     by true among = Contains-from_any (λ x y same. eqb-true x y same) at (along crashed_of events) among
     by false none =
         let distinct : IsDistinct nat_eq (along crashed_of events ++ at ∷ []) = IsDistinct-push nat_eq_equiv (along crashed_of events) at lawful.0 none in
-        let same : along session_of events ≡ along session_of (events ++ at_line asked ∷ []) = sym (along_last session_of events (at_line asked) ∙ append-nil (along session_of events)) in
+        let same : along sessions_of events ≡ along sessions_of (events ++ at_line asked ∷ []) = sym (along_last sessions_of events (at_line asked) ∙ append-nil (along sessions_of events)) in
         let more : IsLawful Run (events ++ at_line asked ∷ []) =
         (subst (IsDistinct nat_eq) (sym (along_last crashed_of events (at_line asked))) distinct, subst AreFewSessions same lawful.1) in
         absurd (both_ways (has_crash (past_of events) at) (more_admitted events asked more) is)
@@ -83,7 +83,7 @@ crash_found events lawful at among = by (has_crash (past_of events) at) refl
 -- ---- sessions
 
 session_left : (events : List EventAt) → IsLawful Run events → (at session : ℕ) → has_session (past_of events) at session ≡ false → SESSIONS_PER_RUN ≤ length (past_of events).sessions →
-    AreFewSessions (along session_of events ++ (at, session) ∷ []) → ⊥
+    AreFewSessions (along sessions_of events ++ (at, session) ∷ []) → ⊥
 session_left events lawful at session other full few = by (more_admitted events asked more)
   where
     asked : Event
@@ -92,14 +92,14 @@ session_left events lawful at session other full few = by (more_admitted events 
     more : IsLawful Run (events ++ at_line asked ∷ [])
     more = (
       subst (IsDistinct nat_eq) (sym (along_last crashed_of events (at_line asked) ∙ append-nil (along crashed_of events))) lawful.0,
-      subst AreFewSessions (sym (along_last session_of events (at_line asked))) few,
+      subst AreFewSessions (sym (along_last sessions_of events (at_line asked))) few,
     )
 
     by : (has_session (past_of events) at session ≡ true) ⊎ (length (past_of events).sessions < SESSIONS_PER_RUN) → ⊥
     by (inl known) = both_ways (has_session (past_of events) at session) other known
     by (inr room) = omega (arith, room, full)
 
-session_full : (events : List EventAt) → IsLawful Run events → (at session : ℕ) → (AreFewSessions (along session_of events ++ (at, session) ∷ []) → ⊥) →
+session_full : (events : List EventAt) → IsLawful Run events → (at session : ℕ) → (AreFewSessions (along sessions_of events ++ (at, session) ∷ []) → ⊥) →
     (has_session (past_of events) at session ≡ false) × (SESSIONS_PER_RUN ≤ length (past_of events).sessions)
 session_full events lawful at session many =
     by (has_session (past_of events) at session) refl (cases_lt (length (past_of events).sessions) SESSIONS_PER_RUN)
@@ -108,7 +108,7 @@ session_full events lawful at session many =
     asked = event.Sql at session []
 
     none : IsAdmitted Run (past_of events) asked → ⊥
-    none now = many (subst AreFewSessions (along_last session_of events (at_line asked)) (lawful_more events asked lawful now).1)
+    none now = many (subst AreFewSessions (along_last sessions_of events (at_line asked)) (lawful_more events asked lawful now).1)
 
     by : (b : Bool) → has_session (past_of events) at session ≡ b → (length (past_of events).sessions < SESSIONS_PER_RUN) ⊎ (SESSIONS_PER_RUN ≤ length (past_of events).sessions) →
         (has_session (past_of events) at session ≡ false) × (SESSIONS_PER_RUN ≤ length (past_of events).sessions)
@@ -122,8 +122,8 @@ session_full events lawful at session many =
 pub record RunSays (past : RunPast) (events : List EventAt) : Type 0 where
   pub crashed : (at : ℕ) → has_crash past at ≡ true → Contains (along crashed_of events) at
   pub again : (at : ℕ) → Contains (along crashed_of events) at → has_crash past at ≡ true
-  pub left : (at session : ℕ) → has_session past at session ≡ false → SESSIONS_PER_RUN ≤ length past.sessions → AreFewSessions (along session_of events ++ (at, session) ∷ []) → ⊥
-  pub full : (at session : ℕ) → (AreFewSessions (along session_of events ++ (at, session) ∷ []) → ⊥) → (has_session past at session ≡ false) × (SESSIONS_PER_RUN ≤ length past.sessions)
+  pub left : (at session : ℕ) → has_session past at session ≡ false → SESSIONS_PER_RUN ≤ length past.sessions → AreFewSessions (along sessions_of events ++ (at, session) ∷ []) → ⊥
+  pub full : (at session : ℕ) → (AreFewSessions (along sessions_of events ++ (at, session) ∷ []) → ⊥) → (has_session past at session ≡ false) × (SESSIONS_PER_RUN ≤ length past.sessions)
 
 -- of a play nothing is asked
 abbrev pub Says : Form → RunPast → List EventAt → Type 0

@@ -6,7 +6,7 @@ use Rattle.geo_script.specs.declared.verb.Verb.{Verb}
 use Rattle.geo_script.specs.declared.verb.Verb.TheVariants.{Sql, Outcome, Seal, Deliver, Fetch, Work, Publish, Show, Crash, Restart}
 use Rattle.geo_script.specs.inner.EventLines.{verb_and_rest}
 use Rattle.geo_script.specs.EventWords.{verb_text}
-use Rattle.geo_script.specs.inner.Verbs.{verbs, lookup, verb_of}
+use Rattle.geo_script.specs.inner.Verbs.{verbs, verb_in, verb_of}
 use Rattle.geo_script.specs.inner.Words.{cut}
 use Rattle.geo_script.proofs.Cuts.{Lacks, cut_at, cut_parts}
 use Rattle.geo_script.proofs.Inversions.{then_some}
@@ -41,11 +41,11 @@ abbrev AreWritten : List (List ℕ × Verb) → Type 0
 AreWritten [] = Unit {0}
 AreWritten (entry ∷ table) = (entry.0 ≡ verb_text entry.1) × AreWritten table
 
-found_written : (table : List (List ℕ × Verb)) (word : List ℕ) (verb : Verb) → AreWritten table → lookup table word ≡ Some verb → word ≡ verb_text verb
+found_written : (table : List (List ℕ × Verb)) (word : List ℕ) (verb : Verb) → AreWritten table → verb_in table word ≡ Some verb → word ≡ verb_text verb
 found_written [] word verb written is = cc
 found_written (entry ∷ table) word verb written is = by (bytes_eq entry.0 word) refl (found_written table word verb written.1) is
   where
-    by : (v : Bool) → bytes_eq entry.0 word ≡ v → (lookup table word ≡ Some verb → word ≡ verb_text verb) → cond v (Some entry.1) (lookup table word) ≡ Some verb →
+    by : (v : Bool) → bytes_eq entry.0 word ≡ v → (verb_in table word ≡ Some verb → word ≡ verb_text verb) → cond v (Some entry.1) (verb_in table word) ≡ Some verb →
         word ≡ verb_text verb
     by true same later found = let here : entry.1 ≡ verb = cc in sym ((bytes_eq-Decides entry.0 word).0 same) ∙ (written.0 ∙ ap verb_text here)
     by false other later found = later found

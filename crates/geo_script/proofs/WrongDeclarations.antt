@@ -10,6 +10,7 @@ use Rattle.std.proofs.lemmas.Slice.Eq.{bytes_eq-Decides}
 use Rattle.std.proofs.lemmas.Str.{IsUtf8-from_is_utf8, is_utf8-from_IsUtf8}
 use Rattle.geo_base.specs.laws.Results.{failed}
 use Rattle.geo_schema.specs.declared.table.TableDef.{TableDef}
+use Rattle.geo_schema.specs.Schemas.{shown_only}
 use Rattle.geo_schema.specs.inner.Schemas.{schema_fault}
 use Rattle.geo_script.specs.declared.fault.ScriptKind.{ScriptKind}
 use Rattle.geo_script.specs.declared.fault.ScriptKind.TheVariants.{NotUtf8, BadTable, BadIndex, BadLine}
@@ -133,7 +134,7 @@ index_bad tables text kind is =
             | inl none ↦ inl (or_err (index_of tables parts.0.0 parts.0.1) BadIndex kind none).1
             | inr found ↦
                 let all : List TableDef = add_index tables found.0.0 found.0.1 in
-                inl (if_err (is_none (schema_fault all)) all BadIndex kind found.2).1
+                inl (if_err (is_none (schema_fault (shown_only all))) all BadIndex kind found.2).1
           ]
     ]
 
@@ -194,7 +195,7 @@ table_bad tables text kind is =
       | inl none ↦ (or_err (option_and_then table_of (marks_of text)) BadTable kind none).1
       | inr found ↦
           let all : List TableDef = tables ++ found.0 ∷ [] in
-          (if_err (is_none (schema_fault all)) all BadTable kind found.2).1
+          (if_err (is_none (schema_fault (shown_only all))) all BadTable kind found.2).1
     ]
 
 -- what the line's first word lets be wrong with it

@@ -15,7 +15,7 @@ use Rattle.geo_script.specs.declared.script.Form.{Form}
 use Rattle.geo_script.specs.declared.script.Form.TheVariants.{Play, Run}
 use Rattle.geo_script.specs.declared.verb.Verb.{Verb}
 use Rattle.geo_script.specs.declared.verb.Verb.TheVariants as verb
-use Rattle.geo_script.specs.inner.EventLines.{OfLine, number, region, place, statement_parts, sql, outcome, only_region, packet_words, deliver, fetch, work, crash_words, crash, after_words, fresh_region, crash_after, if_admitted, play_event, run_event, form_event}
+use Rattle.geo_script.specs.inner.EventLines.{OfLine, number_or_bad, region, place, statement_parts, sql, outcome, only_region, packet_words, deliver, fetch, work, crash_words, crash, after_words, fresh_region, crash_after, if_admitted, play_event, run_event, form_event}
 use Rattle.geo_script.specs.EventWords.{verb_text, HasStatement, HasTwoWords, HasThreeWords, HasSealing, HasAfter, HasWordsBehind}
 use Rattle.geo_script.specs.Words.{IsWord, is_word}
 use Rattle.geo_script.specs.inner.Past.{RunPast, has_crash, has_session}
@@ -33,13 +33,13 @@ use Rattle.geo_script.proofs.Inversions.{or_ok, when_ok}
 
 -- ---- numbers
 
-number_bad : (least most : ℕ) (word : List ℕ) (kind : ScriptKind) → number least most word ≡ Err kind → BadNumber ≡ kind
+number_bad : (least most : ℕ) (word : List ℕ) (kind : ScriptKind) → number_or_bad least most word ≡ Err kind → BadNumber ≡ kind
 number_bad least most word kind is = (or_err (number_within least most word) BadNumber kind is).1
 
-number_err : {B : Type 0} (least most : ℕ) (word : List ℕ) (next : ℕ → OfLine B) (kind : ScriptKind) → (number least most word >>= next) ≡ Err kind →
+number_err : {B : Type 0} (least most : ℕ) (word : List ℕ) (next : ℕ → OfLine B) (kind : ScriptKind) → (number_or_bad least most word >>= next) ≡ Err kind →
     (BadNumber ≡ kind) ⊎ ((n : ℕ) × (next n ≡ Err kind))
 number_err least most word next kind is =
-    elim (failed (number least most word) next kind is) [ inl bad ↦ inl (number_bad least most word kind bad) | inr found ↦ inr (found.0, found.2) ]
+    elim (failed (number_or_bad least most word) next kind is) [ inl bad ↦ inl (number_bad least most word kind bad) | inr found ↦ inr (found.0, found.2) ]
 
 place_bad : (regions : ℕ) (word : List ℕ) (kind : ScriptKind) → place regions word ≡ Err kind → BadNumber ≡ kind
 unfolding place

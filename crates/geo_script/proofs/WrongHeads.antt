@@ -11,7 +11,7 @@ use Rattle.geo_base.specs.laws.Results.{bind_ok, failed}
 use Rattle.geo_script.specs.declared.fault.ScriptKind.{ScriptKind}
 use Rattle.geo_script.specs.declared.fault.ScriptKind.TheVariants.{NotUtf8, BadHeader, BadNumber}
 use Rattle.geo_script.specs.declared.script.Form.{Form}
-use Rattle.geo_script.specs.inner.EventLines.{OfLine, number}
+use Rattle.geo_script.specs.inner.EventLines.{OfLine, number_or_bad}
 use Rattle.geo_script.specs.Spelling.{title}
 use Rattle.geo_script.specs.inner.Scripts.{title_line, regions_word, regions_line}
 use Rattle.geo_base.specs.Results.{◌>>=◌}
@@ -105,12 +105,12 @@ unfolding regions_line
 count_stops line NotUtf8 wrong = rw (other_text line wrong) refl
 count_stops line BadHeader wrong = rw (is_utf8-from_IsUtf8 line wrong.0) (by (regions_word line) refl)
   where
-    by : (r : OfLine (List ℕ)) → regions_word line ≡ r → (r >>= number 1 MAX_REGIONS) ≡ Err BadHeader
+    by : (r : OfLine (List ℕ)) → regions_word line ≡ r → (r >>= number_or_bad 1 MAX_REGIONS) ≡ Err BadHeader
     by (Ok word) read = absurd (wrong.1 (word_counted line word read))
     by (Err kind) read = ap Err (sym (word_bad line kind read))
-count_stops line BadNumber (text, count, none) = rw (is_utf8-from_IsUtf8 line text) (rw (count_word line count) (by (number 1 MAX_REGIONS count.0) refl))
+count_stops line BadNumber (text, count, none) = rw (is_utf8-from_IsUtf8 line text) (rw (count_word line count) (by (number_or_bad 1 MAX_REGIONS count.0) refl))
   where
-    by : (r : OfLine ℕ) → number 1 MAX_REGIONS count.0 ≡ r → r ≡ Err BadNumber
+    by : (r : OfLine ℕ) → number_or_bad 1 MAX_REGIONS count.0 ≡ r → r ≡ Err BadNumber
     by (Ok n) read =
         let is = number_is 1 MAX_REGIONS count.0 n (omega arith) read in
         absurd (none (n, is.low, is.high, count.2 ∙ ap (λ w. codes "regions " ++ w) is.spelled))

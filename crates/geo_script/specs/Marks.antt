@@ -8,6 +8,7 @@ use Rattle.sql_lex.specs.declared.token.TokenKind.TheVariants as kind
 use Rattle.geo_script.specs.declared.mark.Mark.{Mark}
 use Rattle.geo_script.specs.declared.mark.Mark.TheVariants as mark
 
+-- what a keyword is
 abbrev pub keyword_mark : Keyword → Mark
 keyword_mark KInt = mark.Int
 keyword_mark KText = mark.Text
@@ -17,6 +18,7 @@ keyword_mark KNull = mark.Null
 keyword_mark KKey = mark.Key
 keyword_mark _ = mark.Other
 
+-- what a symbol is
 abbrev pub symbol_mark : Symbol → Mark
 symbol_mark symbol.Open = mark.Open
 symbol_mark symbol.Close = mark.Close

@@ -8,7 +8,8 @@ use Rattle.geo_schema.specs.declared.column.Kind.{Kind}
 use Rattle.geo_schema.specs.declared.column.Kind.TheVariants as kind
 use Rattle.geo_schema.specs.declared.index.IndexDef.{IndexDef}
 use Rattle.geo_schema.specs.declared.table.TableDef.{TableDef}
-use Rattle.geo_schema.specs.Schemas.{IsSchema, number_of, table_at}
+use Rattle.geo_schema.specs.Schemas.{IsSchema, shown_only, number_of}
+use Rattle.geo_schema.specs.Tables.{table_in}
 use Rattle.sql_lex.specs.declared.token.Token.{Token}
 use Rattle.sql_lex.specs.Grammar.{AreTokensOf}
 use Rattle.geo_script.specs.declared.column.Column.{Column}
@@ -104,9 +105,9 @@ AreEventLines form regions (line ∷ lines) (event ∷ events) =
     IsEventLine form regions line event × AreEventLines form regions lines events
 
 -- the session of a statement
-abbrev pub session_of : Event → List (ℕ × ℕ)
-session_of (event.Sql region session _) = (region, session) ∷ []
-session_of _ = []
+abbrev pub sessions_of : Event → List (ℕ × ℕ)
+sessions_of (event.Sql region session _) = (region, session) ∷ []
+sessions_of _ = []
 
 -- the region that a run's line crashes
 abbrev pub crashed_of : Event → List ℕ
@@ -127,7 +128,7 @@ pub record AreFewSessions (asked : List (ℕ × ℕ)) : Type 0 where
 -- a run crashes each region once at most, and has at most 64 sessions over all
 abbrev pub IsLawful : Form → List EventAt → Type 0
 IsLawful Play events = Unit {0}
-IsLawful Run events = IsDistinct nat_eq (along crashed_of events) × AreFewSessions (along session_of events)
+IsLawful Run events = IsDistinct nat_eq (along crashed_of events) × AreFewSessions (along sessions_of events)
 
 -- ---- tables and indexes
 
@@ -196,7 +197,7 @@ pub record DeclaresIndex (tables : List TableDef) (line : List ℕ) (at : ℕ) (
   pub tokens : HasMarks text marks
   pub spells : IsNamedList (λ name marks. marks ≡ mark.Name name ∷ []) table columns marks
   pub found : number_of tables table ≡ Some at
-  pub places : AreAtPlaces (table_at tables at).columns columns index.columns
+  pub places : AreAtPlaces (table_in tables at).columns columns index.columns
 
 -- the line adds a table or an index to the tables
 abbrev pub Declares : List TableDef → List ℕ → List TableDef → Type 0
@@ -208,7 +209,7 @@ Declares tables line more =
 abbrev pub AreDeclared : List TableDef → List (ℕ × List ℕ) → List TableDef → Type 0
 AreDeclared tables [] all = all ≡ tables
 AreDeclared tables (line ∷ lines) all =
-    (more : List TableDef) × IsUtf8 line.1 × Declares tables line.1 more × IsSchema more × AreDeclared more lines all
+    (more : List TableDef) × IsUtf8 line.1 × Declares tables line.1 more × IsSchema (shown_only more) × AreDeclared more lines all
 
 -- ---- whole scripts
 
@@ -223,11 +224,13 @@ pub record IsScript (form : Form) (lines : List (List ℕ)) (script : Script) : 
   pub heads : List (ℕ × List ℕ)
   pub number : ℕ
   pub tails : List (ℕ × List ℕ)
+  pub tables : List TableDef
   pub cut : lines ≡ title form ∷ (codes "regions " ++ decimal script.regions) ∷ body
   pub some : 1 ≤ script.regions
   pub few : script.regions ≤ MAX_REGIONS
   pub begins : spoken_from 3 body ≡ heads ++ (number, codes "begin") ∷ tails
-  pub tables : AreDeclared [] heads script.schema
+  pub declared : AreDeclared [] heads tables
+  pub schema : script.schema ≡ shown_only tables
   pub events : AreEventLines form script.regions tails script.events
   pub lawful : IsLawful form script.events
 

@@ -4,7 +4,7 @@ use Rattle.geo_base.specs.Order.{text_eq}
 use Rattle.geo_schema.specs.declared.column.ColumnDef.{ColumnDef}
 use Rattle.geo_schema.specs.declared.index.IndexDef.{IndexDef}
 use Rattle.geo_schema.specs.declared.table.TableDef.{TableDef}
-use Rattle.geo_schema.specs.Schemas.{table_at}
+use Rattle.geo_schema.specs.Tables.{table_in}
 use Rattle.geo_script.specs.declared.column.Column.{Column}
 
 -- the places of the columns that are of the key, where the first column stands at the place
@@ -25,4 +25,4 @@ column_place columns name = position (λ column. text_eq column.name name) colum
 -- the tables, where the one with this number has an index more
 abbrev pub add_index : List TableDef → ℕ → IndexDef → List TableDef
 add_index tables at index =
-    slice_set tables at (record (table_at tables at) { indexes = (table_at tables at).indexes ++ index ∷ [] })
+    slice_set tables at (record (table_in tables at) { indexes = (table_in tables at).indexes ++ index ∷ [] })

@@ -3,7 +3,7 @@ use Rattle.std.specs.Prelude.{◌≡◌, ◌≢◌, ◌⊎◌, ℕ, ◌<◌, ◌
 use Rattle.std.specs.Fmt.{decimal}
 use Rattle.geo_base.specs.declared.limits.TheConstants.{MAX_REGIONS, SESSIONS_PER_REGION}
 use Rattle.geo_schema.specs.declared.table.TableDef.{TableDef}
-use Rattle.geo_schema.specs.Schemas.{IsSchema}
+use Rattle.geo_schema.specs.Schemas.{IsSchema, shown_only}
 use Rattle.geo_script.specs.declared.event.Event.{Event}
 use Rattle.geo_script.specs.declared.event.Event.TheVariants as event
 use Rattle.geo_script.specs.declared.fault.ScriptKind.{ScriptKind}
@@ -14,7 +14,7 @@ use Rattle.geo_script.specs.declared.script.Form.{Form}
 use Rattle.geo_script.specs.declared.script.Form.TheVariants.{Play, Run}
 use Rattle.geo_script.specs.Words.{IsWord}
 use Rattle.geo_script.specs.EventWords.{HasWords}
-use Rattle.geo_script.specs.Spelling.{title, Types, IsOfForm, IsWithin, event_text, along, session_of, crashed_of, AreFewSessions, Declares}
+use Rattle.geo_script.specs.Spelling.{title, Types, IsOfForm, IsWithin, event_text, along, sessions_of, crashed_of, AreFewSessions, Declares}
 
 -- ---- the first two lines
 
@@ -55,7 +55,7 @@ HasEmptyWord line = (front : List ℕ) × IsIndexFront front × Begins (front ++
 
 -- the line declares a table or an index with which the tables are a schema
 abbrev pub CanStand : List TableDef → List ℕ → Type 0
-CanStand tables line = (more : List TableDef) × Declares tables line more × IsSchema more
+CanStand tables line = (more : List TableDef) × Declares tables line more × IsSchema (shown_only more)
 
 -- what is wrong with a line before `begin`
 abbrev pub IsWrongDeclaration : List TableDef → List ℕ → ScriptKind → Type 0
@@ -112,7 +112,7 @@ pub record IsOneSessionMore (regions : ℕ) (events : List EventAt) (line : List
   pub text : List ℕ
   pub typed : line ≡ event_text (event.Sql region session text)
   pub within : IsWithin regions (event.Sql region session text)
-  pub more : AreFewSessions (along session_of events ++ (region, session) ∷ []) → ⊥
+  pub more : AreFewSessions (along sessions_of events ++ (region, session) ∷ []) → ⊥
 
 -- only in runs the sessions are counted over all
 abbrev pub HasNoRoom : Form → ℕ → List EventAt → List ℕ → Type 0

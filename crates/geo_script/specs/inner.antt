@@ -1,4 +1,5 @@
--- What the code computes while it reads, which laws tie to what is to be believed.
+-- Inner: what the code computes while it reads. Contracts of inner functions and proofs of this crate cite it, and of the public
+-- contracts two laws alone, which tie it to what is to be believed. No crate above does.
 pub mod Words
 pub mod Verbs
 pub mod Past

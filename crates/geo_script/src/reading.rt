@@ -1,7 +1,7 @@
 //! Reading the text of a script.
 ghost use Rattle.std.specs.Prelude.{◌≡◌, ◌⊎◌, ◌≤◌, length, None, IfOk, IfErr, MatchResult};
 ghost use Rattle.geo_base.specs.declared.limits.TheConstants.{SCRIPT_BYTES};
-ghost use Rattle.geo_schema.specs.Schemas.{IsSchema};
+ghost use Rattle.geo_schema.specs.Schemas.{IsSchema, shown_only};
 ghost use Rattle.geo_script.specs.declared.script.Script.{Script};
 ghost use Rattle.geo_script.specs.inner.Answers.{Answers};
 ghost use Rattle.geo_script.specs.declared.fault.ScriptFault.{ScriptFault};
@@ -100,8 +100,8 @@ fn read_body(alloc: Global, form: Form, regions: u8, bytes: &[u8]) -> Result<Scr
 /// The schema of tables that are one.
 #[tactic(auto, using(crate::proofs::SchemaTables::schema_or_fault))]
 fn schema_of(alloc: Global, tables: Vec<TableDef>) -> Result<Schema, NoMemory>
-    requires { IsSchema tables.items }
-    ensures { IfOk result (λ schema. schema ≡ tables.items) }
+    requires { IsSchema (shown_only tables.items) }
+    ensures { IfOk result (λ schema. schema ≡ shown_only tables.items) }
 {
     match Schema::new(alloc, tables) {
         Ok(schema) => Ok(schema),

@@ -40,7 +40,7 @@ fn is_same(written: &[u8], word: &[u8]) -> bool
 
 /// The verb of the table that the word is.
 fn lookup(mut table: &[(&[u8], Verb)], word: &[u8]) -> Option<Verb>
-    ensures { result ≡ spec.lookup (map (λ entry. (entry.0.now, entry.1)) table.entry.now) word.now }
+    ensures { result ≡ spec.verb_in (map (λ entry. (entry.0.now, entry.1)) table.entry.now) word.now }
 {
     while let [entry, rest @ ..] = table {
         if is_same(entry.0, word) {

@@ -26,19 +26,20 @@ OfLine A = Result A ScriptKind
 
 -- ---- numbers
 
-abbrev pub number : ℕ → ℕ → List ℕ → OfLine ℕ
-number least most word = ok_or (number_within least most word) BadNumber
+-- the number that the word spells, from the least to the most; else it is a bad one
+abbrev pub number_or_bad : ℕ → ℕ → List ℕ → OfLine ℕ
+number_or_bad least most word = ok_or (number_within least most word) BadNumber
 
 -- a region, below their number
 abbrev pub region : ℕ → List ℕ → OfLine ℕ
-region regions word = number 0 (regions - 1) word
+region regions word = number_or_bad 0 (regions - 1) word
 
 -- a session: its region, a dot, its number
 unfoldable pub place : ℕ → List ℕ → OfLine (ℕ × ℕ)
 place regions word = do
   parts ← ok_or (cut 46 word) BadNumber
   at ← region regions parts.0
-  session ← number 0 (SESSIONS_PER_REGION - 1) parts.1
+  session ← number_or_bad 0 (SESSIONS_PER_REGION - 1) parts.1
   Ok (at, session)
 
 -- ---- lines, by what stands behind the first word and a space
@@ -48,12 +49,14 @@ unfoldable pub statement_parts : List ℕ → Option (List ℕ × List ℕ)
 statement_parts rest =
     option_and_then (λ parts. if is_word parts.0 && not (length parts.1 == 0) then Some parts else None) (cut 32 rest)
 
+-- a statement of a session, of at most as many bytes as it may have
 unfoldable pub sql : ℕ → List ℕ → OfLine Event
 sql regions rest = do
   parts ← ok_or (statement_parts rest) BadLine
   at ← place regions parts.0
   if nat_le (length parts.1) STATEMENT_BYTES then Ok (event.Sql at.0 at.1 parts.1) else Err LongStatement
 
+-- a session alone
 unfoldable pub outcome : ℕ → List ℕ → OfLine Event
 outcome regions rest = if is_word rest then (place regions rest >>= λ at. Ok (event.Outcome at.0 at.1)) else Err BadLine
 
@@ -65,26 +68,29 @@ only_region regions rest = if is_word rest then region regions rest else Err Bad
 unfoldable pub packet_words : List ℕ → Option (List ℕ × List ℕ)
 packet_words rest = if is_word rest then Some (rest, rest) else two_words rest
 
+-- packets that do not fall, and are not too many
 unfoldable pub deliver : List ℕ → OfLine Event
 deliver rest = do
   words ← ok_or (packet_words rest) BadLine
-  first ← number 0 LAST_PACKET words.0
-  last ← number 0 LAST_PACKET words.1
+  first ← number_or_bad 0 LAST_PACKET words.0
+  last ← number_or_bad 0 LAST_PACKET words.1
   if nat_le first last && nat_lt (last - first) PACKETS_PER_LINE then Ok (event.Deliver first last) else Err BadNumber
 
+-- two regions, which differ, and an epoch
 unfoldable pub fetch : ℕ → List ℕ → OfLine Event
 fetch regions rest = do
   words ← ok_or (three_words rest) BadLine
   asking ← region regions words.0
   asked ← region regions words.1
-  epoch ← number 1 LAST_ASKED_EPOCH words.2
+  epoch ← number_or_bad 1 LAST_ASKED_EPOCH words.2
   if asking == asked then Err BadNumber else Ok (event.Fetch asking asked epoch)
 
+-- a region and a seat of its round
 unfoldable pub work : ℕ → List ℕ → OfLine Event
 work regions rest = do
   words ← ok_or (two_words rest) BadLine
   at ← region regions words.0
-  seat ← number 0 (SEATS_PER_ROUND - 1) words.1
+  seat ← number_or_bad 0 (SEATS_PER_ROUND - 1) words.1
   Ok (event.Work at seat)
 
 -- what becomes of the open epoch, by the two words behind a region
@@ -100,6 +106,7 @@ crash_words rest =
     if is_word rest then Some (rest, No)
     else option_and_then (λ words. option_and_then (λ sealing. Some (words.0, sealing)) (sealing_of words.1 words.2)) (three_words rest)
 
+-- a region, and what becomes of its open epoch
 unfoldable pub crash : ℕ → List ℕ → OfLine Event
 crash regions rest = do
   words ← ok_or (crash_words rest) BadLine
@@ -121,7 +128,7 @@ unfoldable pub crash_after : ℕ → RunPast → List ℕ → OfLine Event
 crash_after regions past rest = do
   words ← ok_or (after_words rest) BadLine
   at ← fresh_region past (region regions words.0)
-  epoch ← number 1 LAST_CRASH_EPOCH words.1
+  epoch ← number_or_bad 1 LAST_CRASH_EPOCH words.1
   Ok (event.CrashAfter at epoch)
 
 -- a statement is of a session that the run has already, or there is room for one more
@@ -152,6 +159,7 @@ run_event regions past verb.Sql rest = sql regions rest >>= if_admitted past
 run_event regions past verb.Crash rest = crash_after regions past rest
 run_event regions past _ rest = Err BadLine
 
+-- an event line of the form
 unfoldable pub form_event : Form → ℕ → RunPast → Verb → List ℕ → OfLine Event
 form_event Play regions past verb rest = play_event regions verb rest
 form_event Run regions past verb rest = run_event regions past verb rest

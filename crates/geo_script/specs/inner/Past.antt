@@ -12,9 +12,11 @@ pub record RunPast : Type 0 where
   pub crashed : List ℕ
   pub sessions : List (ℕ × ℕ)
 
+-- before the first line
 abbrev pub nothing_yet : RunPast
 nothing_yet = record { crashed = []; sessions = [] }
 
+-- the region has a line that crashes it
 abbrev pub has_crash : RunPast → ℕ → Bool
 has_crash past region = list_any (nat_eq region) past.crashed
 
@@ -22,6 +24,7 @@ has_crash past region = list_any (nat_eq region) past.crashed
 abbrev pub same_session : ℕ × ℕ → ℕ × ℕ → Bool
 same_session a b = nat_eq a.0 b.0 && nat_eq a.1 b.1
 
+-- the session has a statement
 abbrev pub has_session : RunPast → ℕ → ℕ → Bool
 has_session past region session = list_any (same_session (region, session)) past.sessions
 

@@ -3,13 +3,14 @@ use Rattle.std.specs.Prelude.{ℕ, ◌+◌, ◌&&◌, nat_le, if◌then◌else�
 use Rattle.std.specs.Str.{bytes_eq, is_utf8}
 use Rattle.geo_base.specs.declared.limits.TheConstants.{MAX_REGIONS, SCRIPT_BYTES}
 use Rattle.geo_schema.specs.declared.table.TableDef.{TableDef}
+use Rattle.geo_schema.specs.Schemas.{shown_only}
 use Rattle.geo_script.specs.declared.fault.ScriptFault.{ScriptFault}
 use Rattle.geo_script.specs.declared.fault.ScriptKind.{ScriptKind}
 use Rattle.geo_script.specs.declared.fault.ScriptKind.TheVariants.{TooLong, NotUtf8, BadHeader, MissingBegin}
 use Rattle.geo_script.specs.declared.script.EventAt.{EventAt}
 use Rattle.geo_script.specs.declared.script.Form.{Form}
 use Rattle.geo_script.specs.declared.script.Script.{Script}
-use Rattle.geo_script.specs.inner.EventLines.{OfLine, number, event_line}
+use Rattle.geo_script.specs.inner.EventLines.{OfLine, number_or_bad, event_line}
 use Rattle.geo_script.specs.Lines.{lines_of, spoken_from}
 use Rattle.geo_script.specs.Spelling.{title}
 use Rattle.geo_script.specs.inner.Past.{RunPast, nothing_yet, next_past}
@@ -22,6 +23,7 @@ use Rattle.geo_script.specs.Words.{is_word}
 abbrev pub Checked : Type 0 → Type 0
 Checked A = Result A ScriptFault
 
+-- the line with this number is bad
 abbrev pub bad : {A : Type 0} → ℕ → ScriptKind → Checked A
 bad line kind = Err (record { line = line; kind = kind })
 
@@ -45,7 +47,7 @@ regions_word line = do
 
 -- the line that says how many regions there are
 unfoldable pub regions_line : List ℕ → OfLine ℕ
-regions_line line = if is_utf8 line then (regions_word line >>= number 1 MAX_REGIONS) else Err NotUtf8
+regions_line line = if is_utf8 line then (regions_word line >>= number_or_bad 1 MAX_REGIONS) else Err NotUtf8
 
 -- ---- the lines behind them
 
@@ -71,7 +73,7 @@ unfoldable pub body_of : Form → ℕ → List (List ℕ) → Checked Script
 body_of form regions lines = do
   head ← head_of (3 + length lines) [] (spoken_from 3 lines)
   events ← events_of form regions nothing_yet head.1
-  Ok (record { regions = regions; schema = head.0; events = events })
+  Ok (record { regions = regions; schema = shown_only head.0; events = events })
 
 -- the script of all lines
 unfoldable pub script_of_lines : Form → List (List ℕ) → Checked Script

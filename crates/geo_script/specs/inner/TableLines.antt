@@ -9,7 +9,8 @@ use Rattle.geo_schema.specs.declared.column.Kind.{Kind}
 use Rattle.geo_schema.specs.declared.column.Kind.TheVariants as kind
 use Rattle.geo_schema.specs.declared.index.IndexDef.{IndexDef}
 use Rattle.geo_schema.specs.declared.table.TableDef.{TableDef}
-use Rattle.geo_schema.specs.Schemas.{number_of, table_at}
+use Rattle.geo_schema.specs.Schemas.{shown_only, number_of}
+use Rattle.geo_schema.specs.Tables.{table_in}
 use Rattle.geo_schema.specs.inner.Schemas.{schema_fault}
 use Rattle.geo_script.specs.declared.column.Column.{Column}
 use Rattle.geo_script.specs.declared.column.Typed.{Typed}
@@ -50,6 +51,7 @@ typed_column (mark.Text ∷ marks) = text_column marks
 typed_column (mark.Bool ∷ marks) = typed kind.Truth marks
 typed_column _ = None
 
+-- the column with a name, and with what stands behind it
 abbrev pub named_column : List ℕ → Typed → Column
 named_column name typed =
     record { def = record { name = name; kind = typed.kind; not_null = typed.not_null }; is_key = typed.is_key }
@@ -73,15 +75,15 @@ listed (mark.Open ∷ marks) = option_map (slice_split is_comma) (before_close m
 listed _ = None
 
 -- every item, if each one is as it has to be
-abbrev pub each : {A B : Type 0} → (A → Option B) → List A → Option (List B)
-each of [] = Some []
-each of (item ∷ items) = option_and_then (λ first. option_map (λ more. first ∷ more) (each of items)) (of item)
+abbrev pub all_read : {A B : Type 0} → (A → Option B) → List A → Option (List B)
+all_read of [] = Some []
+all_read of (item ∷ items) = option_and_then (λ first. option_map (λ more. first ∷ more) (all_read of items)) (of item)
 
 -- ---- tables
 
 -- the columns, of which there may be at most 32
 unfoldable pub columns_of : List (List Mark) → Option (List Column)
-columns_of items = if nat_le (length items) MAX_COLUMNS then each column_of items else None
+columns_of items = if nat_le (length items) MAX_COLUMNS then all_read column_of items else None
 
 -- a table: its name, and its columns in parentheses
 unfoldable pub table_of : List Mark → Option TableDef
@@ -90,7 +92,7 @@ table_of _ = None
 
 -- the tables, if they are a schema
 abbrev pub if_schema : ScriptKind → List TableDef → OfLine (List TableDef)
-if_schema kind tables = if is_none (schema_fault tables) then Ok tables else Err kind
+if_schema kind tables = if is_none (schema_fault (shown_only tables)) then Ok tables else Err kind
 
 -- the tables with the one that a text declares
 unfoldable pub with_table : List TableDef → List ℕ → OfLine (List TableDef)
@@ -111,7 +113,7 @@ index_name word = option_and_then (λ name. if bytes_eq name word then Some name
 
 -- a table's name, and names in parentheses
 unfoldable pub named_list : List Mark → Option (List ℕ × List (List ℕ))
-named_list (mark.Name name ∷ marks) = option_map (λ names. (name, names)) (option_and_then (each name_of) (listed marks))
+named_list (mark.Name name ∷ marks) = option_map (λ names. (name, names)) (option_and_then (all_read name_of) (listed marks))
 named_list _ = None
 
 -- A word and what stands behind the next space. An empty word is no word of any line.
@@ -119,6 +121,7 @@ abbrev pub filled : List ℕ → Option (List ℕ × List ℕ) → OfLine (List 
 filled text None = if length text == 0 then Err BadLine else Err BadIndex
 filled text (Some parts) = if length parts.0 == 0 then Err BadLine else Ok parts
 
+-- the first word of a text, and what stands behind the next space
 unfoldable pub first_word : List ℕ → OfLine (List ℕ × List ℕ)
 first_word text = filled text (cut 32 text)
 
@@ -136,8 +139,9 @@ index_with name places = record { name = name; columns = places }
 -- the index with a name on a table and its columns, which are listed, and the number of that table
 abbrev pub index_on : List TableDef → List ℕ → List (List ℕ) → ℕ → Option (ℕ × IndexDef)
 index_on tables name names at =
-    option_map (λ index. (at, index)) (option_map (index_with name) (each (column_place (table_at tables at).columns) names))
+    option_map (λ index. (at, index)) (option_map (index_with name) (all_read (column_place (table_in tables at).columns) names))
 
+-- the index with a name on the table and the columns that a text lists, and the number of that table
 unfoldable pub index_at : List TableDef → List ℕ → List ℕ → Option (ℕ × IndexDef)
 index_at tables name text =
     option_and_then (λ list. option_and_then (index_on tables name list.1) (number_of tables list.0)) (option_and_then named_list (marks_of text))
@@ -166,6 +170,7 @@ declared tables word rest =
     if bytes_eq word (codes "table") then with_table tables rest
     else (if bytes_eq word (codes "index") then with_index tables rest else Err BadLine)
 
+-- the same, where the line may have one word alone
 abbrev pub by_word : List TableDef → List ℕ → Option (List ℕ × List ℕ) → OfLine (List TableDef)
 by_word tables line None = alone line
 by_word tables line (Some parts) = declared tables parts.0 parts.1

@@ -9,10 +9,10 @@ unfoldable pub verbs : List (List ℕ × Verb)
 verbs = map (λ entry. (entry.0.now, entry.1)) VERBS
 
 -- the verb of the table that the word is
-abbrev pub lookup : List (List ℕ × Verb) → List ℕ → Option Verb
-lookup [] word = None
-lookup (entry ∷ table) word = if bytes_eq entry.0 word then Some entry.1 else lookup table word
+abbrev pub verb_in : List (List ℕ × Verb) → List ℕ → Option Verb
+verb_in [] word = None
+verb_in (entry ∷ table) word = if bytes_eq entry.0 word then Some entry.1 else verb_in table word
 
 -- the verb that the word is
 unfoldable pub verb_of : List ℕ → Option Verb
-verb_of word = lookup verbs word
+verb_of word = verb_in verbs word

@@ -1,7 +1,7 @@
 //! The lines that declare tables and indexes.
 ghost use Rattle.std.specs.Prelude.{◌≡◌, ◌+◌, ◌<◌, ◌^◌, [], None, Ok, Err, length, codes, IfOk, MatchResult};
 ghost use Rattle.std.specs.Str.{bytes_eq};
-ghost use Rattle.geo_schema.specs.Schemas.{IsSchema};
+ghost use Rattle.geo_schema.specs.Schemas.{IsSchema, shown_only};
 ghost use Rattle.geo_script.specs.inner.Answers.{Answers, spoken, number_after};
 ghost use Rattle.geo_script.specs.inner.Scripts.{head_of};
 ghost use Rattle.geo_script.specs.inner.TableLines as spec;
@@ -36,11 +36,11 @@ fn declared_by(
     text: &str,
 ) -> Result<Result<Vec<TableDef>, ScriptKind>, NoMemory>
     requires text { length text.now < 2 ^ 32 }
-    requires schema { IsSchema tables.items }
+    requires schema { IsSchema (shown_only tables.items) }
     ensures tables { IfOk result (λ found. MatchResult found
         (λ more. spec.declared_by tables.items text.now ≡ Ok more.items)
         (λ fault. spec.declared_by tables.items text.now ≡ Err fault)) }
-    ensures schema { IfOk result (λ found. IfOk found (λ more. IsSchema more.items)) }
+    ensures schema { IfOk result (λ found. IfOk found (λ more. IsSchema (shown_only more.items))) }
 {
     let Some((word, rest)) = cut_at_space(text) else {
         return Ok(Err(alone(text)));
@@ -62,11 +62,11 @@ fn table_line(
     line: &[u8],
 ) -> Result<Result<Vec<TableDef>, ScriptKind>, NoMemory>
     requires line { length line.now < 2 ^ 32 }
-    requires schema { IsSchema tables.items }
+    requires schema { IsSchema (shown_only tables.items) }
     ensures tables { IfOk result (λ found. MatchResult found
         (λ more. spec.table_line tables.items line.now ≡ Ok more.items)
         (λ fault. spec.table_line tables.items line.now ≡ Err fault)) }
-    ensures schema { IfOk result (λ found. IfOk found (λ more. IsSchema more.items)) }
+    ensures schema { IfOk result (λ found. IfOk found (λ more. IsSchema (shown_only more.items))) }
 {
     match text_of(line) {
         Ok(text) => declared_by(alloc, tables, text),
@@ -88,7 +88,7 @@ pub(crate) fn read_tables(
 ) -> Result<(Vec<TableDef>, Rest<'_>), ScriptRefusal>
     requires { rest.number + length rest.bytes.now < 2 ^ 32 }
     ensures head { Answers (λ head. (head.0.items, spoken head.1)) result (head_of (number_after rest.entry) [] (spoken rest.entry)) }
-    ensures schema { IfOk result (λ head. IsSchema head.0.items) }
+    ensures schema { IfOk result (λ head. IsSchema (shown_only head.0.items)) }
     ensures room { IfOk result (λ head. head.1.number + length head.1.bytes.now < 2 ^ 32) }
 {
     let mut tables = Vec::new(alloc);

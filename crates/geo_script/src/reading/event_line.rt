@@ -18,7 +18,7 @@ use std::alloc::Global;
 
 /// The number from `least` to `most` that the word spells.
 pub(crate) fn number(least: u32, most: u32, word: &str) -> Result<u32, ScriptKind>
-    ensures number { result ≡ spec.number least most word.now }
+    ensures number { result ≡ spec.number_or_bad least most word.now }
     ensures within { IfOk result (λ n. (least ≤ n) × (n ≤ most)) }
 {
     number_within(least, most, word).ok_or(ScriptKind::BadNumber)

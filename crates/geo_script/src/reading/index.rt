@@ -2,7 +2,7 @@
 ghost use Rattle.std.specs.Prelude.{◌≡◌, ◌≤◌, ◌<◌, ◌^◌, Some, None, Ok, Err, map, length, codes, IfOk, IfSome, MatchOption, MatchResult};
 ghost use Rattle.std.specs.Option.{option_map, option_and_then};
 ghost use Rattle.geo_base.specs.declared.limits.TheConstants.{MAX_COLUMNS};
-ghost use Rattle.geo_schema.specs.Schemas.{IsSchema, number_of};
+ghost use Rattle.geo_schema.specs.Schemas.{IsSchema, shown_only, number_of};
 ghost use Rattle.geo_script.specs.Tables.{column_place, add_index};
 ghost use Rattle.geo_script.specs.inner.Marks as marks_spec;
 ghost use Rattle.geo_script.specs.inner.TableLines as spec;
@@ -53,7 +53,7 @@ fn index_name(alloc: Global, word: &str) -> Result<Option<Txt>, NoMemory>
 
 /// The names, if each item is one.
 fn each_name(alloc: Global, items: &[&[Mark]]) -> Result<Option<Vec<Txt>>, NoMemory>
-    ensures { IfOk result (λ found. option_map (λ names. names.items) found ≡ spec.each spec.name_of (map (λ item. item.now) items.now)) }
+    ensures { IfOk result (λ found. option_map (λ names. names.items) found ≡ spec.all_read spec.name_of (map (λ item. item.now) items.now)) }
 {
     let mut names = Vec::new(alloc);
     for item in items {
@@ -67,7 +67,7 @@ fn each_name(alloc: Global, items: &[&[Mark]]) -> Result<Option<Vec<Txt>>, NoMem
 
 /// The names of a list in parentheses.
 fn listed_names(alloc: Global, marks: &[Mark]) -> Result<Option<Vec<Txt>>, NoMemory>
-    ensures { IfOk result (λ found. option_map (λ names. names.items) found ≡ option_and_then (spec.each spec.name_of) (spec.listed marks.now)) }
+    ensures { IfOk result (λ found. option_map (λ names. names.items) found ≡ option_and_then (spec.all_read spec.name_of) (spec.listed marks.now)) }
 {
     match listed(alloc, marks)? {
         Some(items) => each_name(alloc, items.as_slice()),
@@ -147,7 +147,7 @@ fn each_place(
     names: &[Txt],
 ) -> Result<Option<Vec<u8>>, NoMemory>
     requires { length columns.now ≤ MAX_COLUMNS }
-    ensures { IfOk result (λ found. option_map (λ places. places.items) found ≡ spec.each (column_place columns.now) names.now) }
+    ensures { IfOk result (λ found. option_map (λ places. places.items) found ≡ spec.all_read (column_place columns.now) names.now) }
 {
     let mut places = Vec::new(alloc);
     for name in names {
@@ -175,7 +175,7 @@ fn index_on(
     names: &[Txt],
 ) -> Result<Option<IndexDef>, NoMemory>
     requires { length table.now.columns ≤ MAX_COLUMNS }
-    ensures { IfOk result (λ found. found ≡ option_map (spec.index_with name) (spec.each (column_place table.now.columns) names.now)) }
+    ensures { IfOk result (λ found. found ≡ option_map (spec.index_with name) (spec.all_read (column_place table.now.columns) names.now)) }
 {
     match each_place(alloc, table.columns.items(), names)? {
         Some(places) => {
@@ -195,7 +195,7 @@ fn index_at(
     text: &str,
 ) -> Result<Option<(usize, IndexDef)>, NoMemory>
     requires text { length text.now < 2 ^ 32 }
-    requires schema { IsSchema tables.now }
+    requires schema { IsSchema (shown_only tables.now) }
     ensures index { IfOk result (λ found. found ≡ spec.index_at tables.now name text.now) }
     ensures within { IfOk result (λ found. IfSome found (λ index. index.0 < length tables.now)) }
 {
@@ -221,7 +221,7 @@ fn index_of(
 ) -> Result<Option<(usize, IndexDef)>, NoMemory>
     requires word { length word.now < 2 ^ 32 }
     requires text { length text.now < 2 ^ 32 }
-    requires schema { IsSchema tables.now }
+    requires schema { IsSchema (shown_only tables.now) }
     ensures index { IfOk result (λ found. found ≡ spec.index_of tables.now word.now text.now) }
     ensures within { IfOk result (λ found. IfSome found (λ index. index.0 < length tables.now)) }
 {
@@ -255,11 +255,11 @@ pub(crate) fn with_index(
     text: &str,
 ) -> Result<Result<Vec<TableDef>, ScriptKind>, NoMemory>
     requires text { length text.now < 2 ^ 32 }
-    requires schema { IsSchema tables.items }
+    requires schema { IsSchema (shown_only tables.items) }
     ensures tables { IfOk result (λ found. MatchResult found
         (λ more. spec.with_index tables.items text.now ≡ Ok more.items)
         (λ fault. spec.with_index tables.items text.now ≡ Err fault)) }
-    ensures schema { IfOk result (λ found. IfOk found (λ more. IsSchema more.items)) }
+    ensures schema { IfOk result (λ found. IfOk found (λ more. IsSchema (shown_only more.items))) }
 {
     let (word, list) = match index_parts(text) {
         Ok(parts) => parts,

@@ -2,7 +2,7 @@
 ghost use Rattle.std.specs.Prelude.{◌≡◌, ◌≤◌, ◌<◌, ◌^◌, ◌+◌, ◌++◌, ◌∷◌, [], Some, None, Ok, Err, map, length, is_none, IfOk, IfSome, MatchResult};
 ghost use Rattle.std.specs.Option.{option_map, option_and_then};
 ghost use Rattle.geo_base.specs.declared.limits.TheConstants.{MAX_COLUMNS};
-ghost use Rattle.geo_schema.specs.Schemas.{IsSchema};
+ghost use Rattle.geo_schema.specs.Schemas.{IsSchema, shown_only};
 ghost use Rattle.geo_schema.specs.inner.Schemas.{schema_fault};
 ghost use Rattle.geo_script.specs.Tables.{key_places, table_with};
 ghost use Rattle.geo_script.specs.inner.Marks as marks_spec;
@@ -21,7 +21,7 @@ use std::alloc::Global;
 /// The columns, if each item is one.
 fn each_column(alloc: Global, items: &[&[Mark]]) -> Result<Option<Vec<Column>>, NoMemory>
     ensures count { IfOk result (λ found. IfSome found (λ columns. length columns.items ≡ length items.now)) }
-    ensures columns { IfOk result (λ found. option_map (λ columns. columns.items) found ≡ spec.each spec.column_of (map (λ item. item.now) items.now)) }
+    ensures columns { IfOk result (λ found. option_map (λ columns. columns.items) found ≡ spec.all_read spec.column_of (map (λ item. item.now) items.now)) }
 {
     let mut columns = Vec::new(alloc);
     for item in items {
@@ -125,7 +125,7 @@ pub(crate) fn declared_table(alloc: Global, text: &str) -> Result<Option<TableDe
 /// Whether the tables are a schema. Works on a copy of them, of which a schema has at most 64.
 #[tactic(auto, using(crate::proofs::SchemaTables::schema_faultless, crate::proofs::SchemaTables::fault_found))]
 pub(crate) fn are_schema(alloc: Global, tables: &[TableDef]) -> Result<bool, NoMemory>
-    ensures { IfOk result (λ are. are ≡ is_none (schema_fault tables.now)) }
+    ensures { IfOk result (λ are. are ≡ is_none (schema_fault (shown_only tables.now))) }
 {
     match Schema::new(alloc, copy_items(alloc, tables)?) {
         Ok(_) => Ok(true),
@@ -144,7 +144,7 @@ pub(crate) fn if_schema(
     ensures tables { IfOk result (λ found. MatchResult found
         (λ more. spec.if_schema kind tables.items ≡ Ok more.items)
         (λ fault. spec.if_schema kind tables.items ≡ Err fault)) }
-    ensures schema { IfOk result (λ found. IfOk found (λ more. IsSchema more.items)) }
+    ensures schema { IfOk result (λ found. IfOk found (λ more. IsSchema (shown_only more.items))) }
 {
     if are_schema(alloc, tables.as_slice())? {
         Ok(Ok(tables))
@@ -164,7 +164,7 @@ pub(crate) fn with_table(
     ensures tables { IfOk result (λ found. MatchResult found
         (λ more. spec.with_table tables.items text.now ≡ Ok more.items)
         (λ fault. spec.with_table tables.items text.now ≡ Err fault)) }
-    ensures schema { IfOk result (λ found. IfOk found (λ more. IsSchema more.items)) }
+    ensures schema { IfOk result (λ found. IfOk found (λ more. IsSchema (shown_only more.items))) }
 {
     match declared_table(alloc, text)? {
         Some(table) => {

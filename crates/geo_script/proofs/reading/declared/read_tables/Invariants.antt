@@ -1,5 +1,5 @@
 use Rattle.std.proofs.Common.{◌≡◌, ◌+◌, ◌<◌, ◌^◌, [], length}
-use Rattle.geo_schema.specs.Schemas.{IsSchema}
+use Rattle.geo_schema.specs.Schemas.{IsSchema, shown_only}
 use Rattle.geo_script.specs.inner.Answers.{spoken, number_after}
 use Rattle.geo_script.specs.inner.Scripts.{head_of}
 use Rattle.geo_script.proofs.reading.declared.read_tables.Given as goal
@@ -8,7 +8,7 @@ abbrev pub invariant-loop-next : goal.invariant-loop-next
 invariant-loop-next l = record {
   read : head_of (number_after l.fn.rest) [] (spoken l.fn.rest) ≡ head_of (number_after l.fn.rest) l.tables.items (spoken l.behind);
   number : number_after l.behind ≡ number_after l.fn.rest;
-  schema : IsSchema l.tables.items;
+  schema : IsSchema (shown_only l.tables.items);
   room : l.behind.number + length l.behind.bytes.now < 2 ^ 32;
 }
 
