@@ -5,7 +5,7 @@ use Rattle.geo_base.specs.declared.cell.Cell.{Cell}
 use Rattle.geo_base.specs.declared.cell.Cell.TheVariants as cell
 use Rattle.geo_base.specs.declared.row_id.RowId.{RowId}
 use Rattle.geo_schema.specs.Rows.{IsRow, key_cells}
-use Rattle.geo_schema.specs.Schemas.{IsSchemaFault}
+use Rattle.geo_schema.specs.Schemas.{IsSchemaFault, IsTableNo, table_numbered, table_at}
 use Rattle.geo_schema.specs.declared.fault.SchemaFault.{SchemaFault}
 use Rattle.geo_schema.specs.inner.Rows.{cell_fault, row_fault}
 use Rattle.geo_schema.specs.inner.Schemas.{schema_fault}
@@ -22,6 +22,15 @@ kv_faultless = refl
 -- the tables have no fault, so they are a schema
 pub kv_no_fault : (why : SchemaFault) → IsSchemaFault kv_tables why → ⊥
 kv_no_fault why fault = none-some why (sym kv_faultless ∙ schema_fault_is kv_tables why fault)
+
+-- the table has the number 0
+pub kv_numbered : IsTableNo kv_tables 0
+unfolding table_numbered
+kv_numbered = refl
+
+pub kv_at : table_at kv_tables 0 ≡ kv_table
+unfolding table_numbered
+kv_at = refl
 
 kv_fits : (key value : ℤ) → row_fault kv_table (kv_cells key value) ≡ None
 unfolding row_fault cell_fault

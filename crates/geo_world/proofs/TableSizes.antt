@@ -14,7 +14,7 @@ use Rattle.geo_base.specs.declared.row_image.RowImage.{RowImage}
 use Rattle.geo_base.specs.Order.{row_cmp}
 use Rattle.write_set.specs.declared.batch.Batch.{Batch}
 use Rattle.write_set.specs.declared.candidate.Candidate.{Candidate}
-use Rattle.write_set.specs.declared.change.Change.TheVariants.{Put, Remove}
+use Rattle.write_set.specs.declared.change.Change.TheVariants.{Put, Remove, Touch}
 use Rattle.write_set.specs.Sets.{ChangeOfRow}
 use Rattle.write_set.specs.Journal.{Journal, Placed, Epochs, placed_from, candidates_of, batches_at, epochs_of}
 use Rattle.write_set.specs.Merge.{committed, last_change, verdict_of, is_committed}
@@ -46,6 +46,7 @@ removed-length test (x ∷ rows) = removed-length_at (test x.0) test x rows refl
 changed-length : (p : ChangeOfRow) (rows : Table) → length (changed p rows) ≤ length rows + 1
 changed-length (row, Put image) rows = put-length row image rows
 changed-length (row, Remove) rows = omega (arith, removed-length (is_at (row_cmp row)) rows)
+changed-length (row, Touch) rows = omega arith
 
 overlay-length : (rows : Table) (ps : List ChangeOfRow) → length (overlay rows ps) ≤ length rows + length ps
 overlay-length rows [] = omega arith

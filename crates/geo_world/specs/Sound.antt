@@ -8,6 +8,7 @@ use Rattle.write_set.specs.Journal.{IsJournal, log_of, last_sealed}
 use Rattle.geo_world.specs.World.{World, Session, Idle, Pending, Packet, BatchPacket, region_of, sealed_by, open_epoch, session_of, has_arrived}
 use Rattle.geo_world.specs.Step.{numbers_below}
 
+-- the session waits for a verdict
 abbrev pub is_pending : Session → Bool
 is_pending Idle = false
 is_pending (Pending ticket) = true
@@ -52,6 +53,7 @@ pub record IsSoundRegion (w : World) (region : ℕ) : Type 0 where
 abbrev pub IsSoundPacket : World → Packet → Type 0
 IsSoundPacket w (BatchPacket to region epoch) = (to < length w.regions) × IsSealed w to region epoch
 
+-- 1 to 8 regions, each with a list of batches that are a journal; each region is sound, and so is each packet
 pub record IsSound (w : World) : Type 0 where
   pub some : 1 ≤ length w.regions
   pub few : length w.regions ≤ MAX_REGIONS

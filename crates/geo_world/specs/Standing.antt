@@ -21,6 +21,7 @@ use Rattle.geo_world.specs.Tables.{kv_tables}
 abbrev pub region_count : Kept → ℕ
 region_count k = vec_len k.regions
 
+-- the session of the world that the program's stands for
 abbrev pub session_state : KeptSession → Session
 session_state kept.Idle = Idle
 session_state (kept.Pending ticket) = Pending ticket

@@ -73,6 +73,7 @@ abbrev pub next_ticket : World → ℕ → CandId
 next_ticket w region =
     record { epoch = open_epoch w region; region = region; csn = length (region_of w region).waiting }
 
+-- a session's candidate: refused where it is too old or the batch is full, and else taken, with the next ticket
 abbrev pub submit : World → ℕ → ℕ → Candidate → Stepped
 submit w region session candidate =
     if nat_lt MAX_AGE (open_epoch w region - candidate.start)
@@ -93,6 +94,7 @@ run_statement w region session (Insert key value) =
 run_statement w region session Select =
     says w (answer region session (snap_rows (published_epochs w region)))
 
+-- a statement of a session in this state: it runs where the session is idle, and is refused where it waits
 abbrev pub sql : World → ℕ → ℕ → Statement → Session → Stepped
 sql w region session statement Idle = run_statement w region session statement
 sql w region session statement (Pending ticket) = says w (session_waits region session ticket)
@@ -123,6 +125,7 @@ sealed_world w region =
       packets = w.packets ++ map (λ to. BatchPacket to region (open_epoch w region)) (others (length w.regions) region);
     }
 
+-- a seal: refused where the open epoch is the last or the region is too far ahead, and else a batch with its packets
 abbrev pub seal : World → ℕ → Stepped
 seal w region =
     if nat_le w.last (open_epoch w region)
@@ -165,6 +168,7 @@ deliver (suc count) packet w =
 abbrev pub have : World → ℕ → ℕ → ℕ
 have w region epoch = count_by (λ q. holds w region q epoch) (numbers_below (length w.regions))
 
+-- a publish: the next epoch where the region has every region's batch of it, and else the region waits
 abbrev pub publish : World → ℕ → Stepped
 publish w region =
     let epoch = (region_of w region).published + 1 in
@@ -176,11 +180,13 @@ publish w region =
       lines = epoch_published region epoch (count_by is_committed outcomes) (count_by (λ o. not (is_committed o)) outcomes);
     }
 
+-- a show: the region's published epoch and its rows
 abbrev pub show : World → ℕ → Stepped
 show w region = says w (shown region (region_of w region).published (snap_rows (published_epochs w region)))
 
 -- ---- all events
 
+-- an event in a world
 abbrev pub step : World → Event → Stepped
 step w (Sql region session statement) = sql w region session statement (session_of w region session)
 step w (Seal region) = seal w region

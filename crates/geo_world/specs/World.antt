@@ -38,6 +38,7 @@ abbrev pub first_world : ℕ → ℕ → World
 first_world regions last =
     record { last = last; journal = replicate regions []; regions = replicate regions new_region; sessions = []; packets = [] }
 
+-- the state of a region, by its number
 abbrev pub region_of : World → ℕ → RegionState
 region_of w region = slice_index_or w.regions region new_region
 
@@ -57,6 +58,7 @@ published_epochs w region = epochs_of w.journal (region_of w region).published
 abbrev pub is_session : ℕ → ℕ → (ℕ × ℕ) → Bool
 is_session region number key = (region == key.0) && (number == key.1)
 
+-- the state of a session, by its region and its number there
 abbrev pub session_of : World → ℕ → ℕ → Session
 session_of w region number = unwrap_or (lookup (is_session region number) w.sessions) Idle
 

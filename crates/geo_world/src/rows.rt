@@ -23,6 +23,7 @@ pub fn image_of(alloc: Global, key: i64, value: i64) -> Result<RowImage, NoMemor
 }
 
 /// The name of a row of the table.
+#[tactic(auto, using(crate::proofs::OneTable::kv_numbered, crate::proofs::OneTable::kv_at))]
 pub fn row_of(alloc: Global, schema: &Schema, image: &RowImage) -> Result<RowId, NoMemory>
     requires table { schema.now ≡ kv_tables }
     requires fits { IsRow kv_table image.now }
