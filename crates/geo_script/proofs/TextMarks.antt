@@ -1,11 +1,11 @@
 -- Marks of a text, by what its tokens are.
-use Rattle.std.proofs.Common.{◌≡◌, ℕ, List, map, Option, Some, None, Result, Ok, Err, refl, sym, ap, inl, inr}
+use Rattle.std.proofs.Common.{◌≡◌, ℕ, List, map, Option, Some, None, Result, Ok, Err, refl, sym, ap, ◌⊎◌, inl, inr}
 use Rattle.sql_lex.specs.declared.token.LexFault.{LexFault}
-use Rattle.sql_lex.specs.declared.token.LexFault.TheVariants.{BadText}
+use Rattle.sql_lex.specs.declared.token.LexFault.TheVariants.{BadText, NoMemory}
 use Rattle.sql_lex.specs.declared.token.Token.{Token}
 use Rattle.sql_lex.specs.inner.Tokens.{tokens_of}
-use Rattle.sql_lex.specs.Grammar.{AreTokensOf}
-use Rattle.sql_lex.specs.laws.Cuts.{Stops, tokens_are_cut, cut_is_tokens, stop_is_fault}
+use Rattle.sql_lex.specs.Grammar.{AreTokensOf, IsLexFault}
+use Rattle.sql_lex.specs.laws.Cuts.{tokens_are_cut, cut_is_tokens, tokens_tell}
 use Rattle.geo_script.specs.declared.mark.Mark.{Mark}
 use Rattle.geo_script.specs.Marks.{mark_of}
 use Rattle.geo_script.specs.inner.Marks.{if_tokens, marks_of}
@@ -29,7 +29,7 @@ pub cut_marks : (text : List ℕ) (tokens : List Token) → AreTokensOf tokens t
 cut_marks text tokens are = marks_read text (map (λ token. mark_of token.kind) tokens) (tokens, are, refl)
 
 -- a text that stops at a place has none
-pub stop_marks : (text : List ℕ) (fault : LexFault) (at : ℕ) → fault ≡ BadText at → Stops text fault → marks_of text ≡ None
+pub stop_marks : (text : List ℕ) (fault : LexFault) (at : ℕ) → fault ≡ BadText at → (fault ≡ NoMemory) ⊎ IsLexFault text fault → marks_of text ≡ None
 unfolding marks_of
 stop_marks text fault at is (inl memory) = cc
-stop_marks text fault at is (inr (place, same, stops)) = rw (stop_is_fault text place stops) refl
+stop_marks text fault at is (inr has) = rw ((tokens_tell text).refused fault has) refl
