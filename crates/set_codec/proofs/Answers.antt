@@ -3,8 +3,7 @@ use Rattle.std.proofs.Common.{◌≡◌, ℕ, ◌≤◌, None, List, Result, Ok,
 use Rattle.std.specs.Prelude.{IfOk}
 use Rattle.geo_base.specs.Results.{Gives, Reads}
 use Rattle.geo_base.specs.declared.limits.TheConstants.{MAX_REGIONS}
-use Rattle.geo_schema.specs.declared.table.TableDef.{TableDef}
-use Rattle.geo_schema.specs.Schemas.{IsSchema}
+use Rattle.geo_schema.specs.Schemas.{Tables, IsSchema}
 use Rattle.row_codec.specs.Places.{AreBytes}
 use Rattle.geo_base.specs.laws.Answers.{answer_only}
 use Rattle.write_set.specs.declared.batch.Batch.{Batch}
@@ -12,8 +11,8 @@ use Rattle.set_codec.specs.declared.fault.CodecFault.{CodecFault}
 use Rattle.set_codec.specs.declared.fault.CodecFault.TheVariants.{NoMemory}
 use Rattle.set_codec.specs.declared.packet.Packet.{Packet}
 use Rattle.set_codec.specs.Alone.{SpellsBatch, SpellsPacket}
-use Rattle.set_codec.specs.Fits.{FitsRegions, FitsPacket}
-use Rattle.set_codec.specs.Spelling.{batch_spelling, packet_spelling}
+use Rattle.set_codec.specs.Fits.{FitsRegions, FitsPacket, IsSpelling}
+use Rattle.set_codec.specs.Spelling.{packet_spelling}
 use Rattle.set_codec.specs.inner.Reading.{batch_at, packet_at}
 use Rattle.set_codec.specs.laws.Batches.{LastStands, batch_tells, last_lawful, spelled_last}
 use Rattle.set_codec.specs.laws.Packets.{PartsStand, packet_tells, packet_lawful, spelled_parts}
@@ -23,13 +22,13 @@ reads_as : {X Y E : Type 0} (no_memory : E) (view : X → Y) (r : Result X E) (P
 reads_as no_memory view (Ok x) P Q reads as_p = λ y q. reads y (as_p y q)
 reads_as no_memory view (Err e) P Q reads as_p = λ y q. reads y (as_p y q)
 
-module _ (tables : List TableDef) (regions : ℕ) (bytes : List ℕ) (schema : IsSchema tables) (fits : AreBytes bytes) where
+module _ (tables : Tables) (regions : ℕ) (bytes : List ℕ) (schema : IsSchema tables) (fits : AreBytes bytes) where
   pub batch_fits : (r : Result Batch CodecFault) → Gives NoMemory (λ b. b) r (batch_at tables regions None bytes 0) → IfOk r (λ b. regions ≤ MAX_REGIONS → FitsRegions tables regions b)
   batch_fits (Ok b) exact = (last_lawful bytes tables schema regions None 0 b ((batch_tells bytes tables schema regions None 0).found fits b exact)).1
   batch_fits (Err e) exact = tt
 
-  pub batch_spelled : (r : Result Batch CodecFault) → Gives NoMemory (λ b. b) r (batch_at tables regions None bytes 0) → IfOk r (λ b. batch_spelling tables b ≡ bytes)
-  batch_spelled (Ok b) exact = sym (last_lawful bytes tables schema regions None 0 b ((batch_tells bytes tables schema regions None 0).found fits b exact)).0
+  pub batch_spelled : (r : Result Batch CodecFault) → Gives NoMemory (λ b. b) r (batch_at tables regions None bytes 0) → IfOk r (λ b. IsSpelling tables b bytes)
+  batch_spelled (Ok b) exact = (last_lawful bytes tables schema regions None 0 b ((batch_tells bytes tables schema regions None 0).found fits b exact)).0
   batch_spelled (Err e) exact = tt
 
   pub batch_only : (r : Result Batch CodecFault) → Gives NoMemory (λ b. b) r (batch_at tables regions None bytes 0) → Reads NoMemory (λ b. b) r (SpellsBatch tables regions bytes)

@@ -10,7 +10,7 @@ use Rattle.geo_base.specs.Cells.{is_null, key_fault}
 use Rattle.geo_schema.specs.declared.column.ColumnDef.{ColumnDef}
 use Rattle.geo_schema.specs.declared.table.TableDef.{TableDef}
 use Rattle.geo_schema.specs.Rows.{is_in, Suits}
-use Rattle.geo_schema.specs.Tables.{IsTable}
+use Rattle.geo_schema.specs.Tables.{TakesRows}
 use Rattle.geo_schema.specs.laws.Places.{none_found}
 use Rattle.row_codec.specs.Places.{AreBytes}
 use Rattle.set_codec.specs.inner.Reading.{key_at}
@@ -26,7 +26,7 @@ not_null key column place c within s = by (is_null c) refl
 in_itself : (key : List ℕ) (k : ℕ) → k < length key → is_in key (get_or key k 0) ≡ true
 in_itself key k lt = list_any_at (λ p. nat_eq p (get_or key k 0)) key k 0 lt (eq-eqb (get_or key k 0) (get_or key k 0) refl)
 
-pub key_is_whole : (table : TableDef) (bytes : List ℕ) (at next : ℕ) (cells : List Cell) → IsTable table → AreBytes bytes → key_at table bytes at ≡ Ok (cells, next) → key_fault cells ≡ None
+pub key_is_whole : (table : TableDef) (bytes : List ℕ) (at next : ℕ) (cells : List Cell) → TakesRows table → AreBytes bytes → key_at table bytes at ≡ Ok (cells, next) → key_fault cells ≡ None
 unfolding key_fault
 key_is_whole table bytes at next cells rules fits e =
     let s = (key_tells bytes table at).found fits (cells, next) e in

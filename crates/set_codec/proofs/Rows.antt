@@ -4,9 +4,10 @@ use Rattle.std.specs.Option.{option_map}
 use Rattle.std.specs.List.{slice_get}
 use Rattle.geo_base.specs.declared.row_id.RowId.{RowId}
 use Rattle.geo_base.specs.Results.{Fails}
-use Rattle.geo_schema.specs.declared.table.TableDef.{TableDef}
+use Rattle.geo_schema.specs.Schemas.{Tables}
 use Rattle.write_set.specs.Sets.{ChangeOfRow}
 use Rattle.set_codec.specs.declared.fault.CodecFault.{CodecFault}
+use Rattle.set_codec.specs.declared.format.Format.{Format}
 use Rattle.set_codec.specs.inner.Reading.{last_row, change_at}
 
 pub last_pushed : (front : List ChangeOfRow) (c : ChangeOfRow) → last_row (front ++ c ∷ []) ≡ Some c.0
@@ -24,9 +25,9 @@ last_got (a ∷ b ∷ cs) =
 pub last_is : (changes : List ChangeOfRow) (c : ChangeOfRow) → slice_get changes (length changes - 1) ≡ Some c → Some c.0 ≡ last_row changes
 last_is changes c e = sym (ap (option_map (λ (d : ChangeOfRow). d.0)) e) ∙ last_got changes
 
-module _ (tables : List TableDef) (bytes : List ℕ) (next : ℕ) (last : Option RowId) (front : List ChangeOfRow) where
-  pub read_behind : (x : ChangeOfRow × ℕ) → last ≡ last_row front → change_at tables last bytes next ≡ Ok x → change_at tables (last_row front) bytes next ≡ Ok x
-  read_behind x is e = subst (λ (o : Option RowId). change_at tables o bytes next ≡ Ok x) is e
+module _ (format : Format) (tables : Tables) (bytes : List ℕ) (next : ℕ) (last : Option RowId) (front : List ChangeOfRow) where
+  pub read_behind : (x : ChangeOfRow × ℕ) → last ≡ last_row front → change_at format tables last bytes next ≡ Ok x → change_at format tables (last_row front) bytes next ≡ Ok x
+  read_behind x is e = subst (λ (o : Option RowId). change_at format tables o bytes next ≡ Ok x) is e
 
-  pub fails_behind : (no_memory e : CodecFault) → last ≡ last_row front → Fails no_memory e (change_at tables last bytes next) → Fails no_memory e (change_at tables (last_row front) bytes next)
-  fails_behind no_memory e is h = subst (λ (o : Option RowId). Fails no_memory e (change_at tables o bytes next)) is h
+  pub fails_behind : (no_memory e : CodecFault) → last ≡ last_row front → Fails no_memory e (change_at format tables last bytes next) → Fails no_memory e (change_at format tables (last_row front) bytes next)
+  fails_behind no_memory e is h = subst (λ (o : Option RowId). Fails no_memory e (change_at format tables o bytes next)) is h

@@ -6,7 +6,7 @@ use Rattle.geo_base.specs.declared.cell.Cell.{Cell}
 use Rattle.geo_base.specs.declared.row_id.RowId.{RowId}
 use Rattle.geo_schema.specs.declared.table.TableDef.{TableDef}
 use Rattle.geo_schema.specs.Rows.{is_in}
-use Rattle.geo_schema.specs.Schemas.{table_at}
+use Rattle.geo_schema.specs.Schemas.{Tables, table_at}
 use Rattle.row_codec.specs.declared.fault.CellReadFault.{CellReadFault}
 use Rattle.row_codec.specs.Faults.{IsFaultAt}
 use Rattle.row_codec.specs.Fields.{IsCut, ByteStands, NumberStands, FieldStands}
@@ -15,6 +15,7 @@ use Rattle.row_codec.specs.Spelling.{CellStands}
 use Rattle.set_codec.specs.declared.fault.CodecFault.{CodecFault}
 use Rattle.set_codec.specs.declared.fault.CodecFault.TheVariants.{Short, BadTag, NotOrdered, BadRow, BadStart, OverLimit, Trailing}
 use Rattle.set_codec.specs.declared.fault.Limit.TheVariants as limit
+use Rattle.set_codec.specs.declared.format.Format.{Format}
 use Rattle.set_codec.specs.declared.kind.Kind.{Kind}
 use Rattle.set_codec.specs.declared.kind.Kind.TheVariants as kind
 use Rattle.set_codec.specs.CellFaults.{fault_of}
@@ -30,8 +31,9 @@ IsByteFault Rule fault bytes at = Breaks (IsCut Short 1 bytes at) (ByteStands by
 abbrev pub IsNumberFault : (ℕ → Type 0) → CodecFault → List ℕ → ℕ → CodecFault → Type 0
 IsNumberFault Rule fault bytes at = Breaks (IsCut Short 4 bytes at) (NumberStands w32 bytes at) Rule fault
 
+-- a mark that no format has is at fault
 abbrev pub IsMarkFault : List ℕ → ℕ → CodecFault → Type 0
-IsMarkFault bytes at = Breaks (IsCut Short 4 bytes at) (FieldStands 4 bytes at) IsMark (BadTag at)
+IsMarkFault bytes at = Breaks (IsCut Short 4 bytes at) (FieldStands 4 bytes at) (λ field. (format : Format) × IsMark field format) (BadTag at)
 
 abbrev pub IsRegionFault : ℕ → List ℕ → ℕ → CodecFault → Type 0
 IsRegionFault regions bytes at = IsByteFault (IsRegionOf regions) (BadTag at) bytes at
@@ -52,11 +54,12 @@ IsStartFault epoch bytes at = IsNumberFault (IsStartOf epoch) (BadStart at) byte
 abbrev pub IsRowsFault : List ℕ → ℕ → CodecFault → Type 0
 IsRowsFault bytes at = IsNumberFault IsRowCount (OverLimit at limit.Rows) bytes at
 
-abbrev pub IsTableFault : List TableDef → List ℕ → ℕ → CodecFault → Type 0
+abbrev pub IsTableFault : Tables → List ℕ → ℕ → CodecFault → Type 0
 IsTableFault tables bytes at = IsByteFault (IsTableOf tables) (BadRow at) bytes at
 
-abbrev pub IsKindFault : List ℕ → ℕ → CodecFault → Type 0
-IsKindFault bytes at = IsByteFault IsKind (BadTag at) bytes at
+-- so is the byte of a kind that the format hasn't
+abbrev pub IsKindFault : Format → List ℕ → ℕ → CodecFault → Type 0
+IsKindFault format bytes at = IsByteFault (λ byte. (kind : Kind) × IsKind format byte kind) (BadTag at) bytes at
 
 -- more bytes follow
 abbrev pub IsTrailing : List ℕ → ℕ → CodecFault → Type 0
@@ -85,53 +88,54 @@ IsRowFault table key bytes at e =
 abbrev pub IsDoneFault : TableDef → List Cell → Kind → List ℕ → ℕ → CodecFault → Type 0
 IsDoneFault table key kind.Put bytes at e = IsRowFault table key bytes at e
 IsDoneFault table key kind.Remove bytes at e = ⊥
+IsDoneFault table key kind.Touch bytes at e = ⊥
 
 -- a change behind that of the last row: its table, its kind, a cell of its key, its order, or what its kind wants
-abbrev pub IsChangeFault : List TableDef → Option RowId → List ℕ → ℕ → CodecFault → Type 0
-IsChangeFault tables last bytes at e =
+abbrev pub IsChangeFault : Format → Tables → Option RowId → List ℕ → ℕ → CodecFault → Type 0
+IsChangeFault format tables last bytes at e =
     FirstOrLater (IsTableFault tables bytes at e) (TableStands tables bytes at) (λ table.
-    FirstOrLater (IsKindFault bytes table.1 e) (KindStands bytes table.1) (λ kind.
+    FirstOrLater (IsKindFault format bytes table.1 e) (KindStands format bytes table.1) (λ kind.
     FirstOrLater (IsKeyFault (table_at tables table.0) bytes kind.1 e) (λ key. (length key.0 ≡ length (table_at tables table.0).key) × KeyStands (table_at tables table.0) 0 bytes kind.1 key) (λ key.
     ((¬ (IsAfter last (record { table = table.0; key = key.0 }))) × (e ≡ NotOrdered at))
     ⊎ (IsAfter last (record { table = table.0; key = key.0 }) × IsDoneFault (table_at tables table.0) key.0 kind.0 bytes key.1 e))))
 
 -- of so many changes the first ones are in order, and the next is at fault
-abbrev pub IsChangesFault : List TableDef → ℕ → List ℕ → ℕ → CodecFault → Type 0
-IsChangesFault tables count bytes at e = IsFaultOfThings (ChangesStand tables None bytes at) (λ front. IsChangeFault tables (row_before None front) bytes) count e
+abbrev pub IsChangesFault : Format → Tables → ℕ → List ℕ → ℕ → CodecFault → Type 0
+IsChangesFault format tables count bytes at e = IsFaultOfThings (ChangesStand format tables None bytes at) (λ front. IsChangeFault format tables (row_before None front) bytes) count e
 
 -- ---- candidates
 
 -- the start, the number of rows or a change is at fault; or the changes are in order, and have too many bytes
-abbrev pub IsCandidateFault : List TableDef → ℕ → List ℕ → ℕ → CodecFault → Type 0
-IsCandidateFault tables epoch bytes at e =
+abbrev pub IsCandidateFault : Format → Tables → ℕ → List ℕ → ℕ → CodecFault → Type 0
+IsCandidateFault format tables epoch bytes at e =
     FirstOrLater (IsStartFault epoch bytes at e) (StartStands epoch bytes at) (λ start.
     FirstOrLater (IsRowsFault bytes start.1 e) (RowsStand bytes start.1) (λ rows.
-    FirstOrLater (IsChangesFault tables rows.0 bytes rows.1 e) (λ set. (length set.0 ≡ rows.0) × ChangesStand tables None bytes rows.1 set) (λ set.
+    FirstOrLater (IsChangesFault format tables rows.0 bytes rows.1 e) (λ set. (length set.0 ≡ rows.0) × ChangesStand format tables None bytes rows.1 set) (λ set.
     (¬ (IsSetSize (length (changes_spelling tables set.0)))) × (e ≡ OverLimit at limit.SetBytes))))
 
 -- of so many candidates the first ones are in order, and the next is at fault
-abbrev pub IsCandidatesFault : List TableDef → ℕ → ℕ → List ℕ → ℕ → CodecFault → Type 0
-IsCandidatesFault tables epoch count bytes at e = IsFaultOfThings (CandidatesStand tables epoch bytes at) (λ _. IsCandidateFault tables epoch bytes) count e
+abbrev pub IsCandidatesFault : Format → Tables → ℕ → ℕ → List ℕ → ℕ → CodecFault → Type 0
+IsCandidatesFault format tables epoch count bytes at e = IsFaultOfThings (CandidatesStand format tables epoch bytes at) (λ _. IsCandidateFault format tables epoch bytes) count e
 
 -- ---- batches and packets
 
 -- of a batch for the region that it goes to, if it is in a packet: the mark, the region, the epoch, the number of candidates or a candidate is at fault
-abbrev pub IsFrontFault : List TableDef → ℕ → Option ℕ → List ℕ → ℕ → CodecFault → Type 0
+abbrev pub IsFrontFault : Tables → ℕ → Option ℕ → List ℕ → ℕ → CodecFault → Type 0
 IsFrontFault tables regions to bytes at e =
-    FirstOrLater (IsMarkFault bytes at e) (MarkStands bytes at) (λ behind.
-    FirstOrLater (IsOtherFault regions to 1 bytes behind.1 e) (OtherStands regions to bytes behind.1) (λ region.
+    FirstOrLater (IsMarkFault bytes at e) (MarkStands bytes at) (λ format.
+    FirstOrLater (IsOtherFault regions to 1 bytes format.1 e) (OtherStands regions to bytes format.1) (λ region.
     FirstOrLater (IsEpochFault bytes region.1 e) (EpochStands bytes region.1) (λ epoch.
     FirstOrLater (IsCountFault bytes epoch.1 e) (CountStands bytes epoch.1) (λ count.
-    IsCandidatesFault tables epoch.0 count.0 bytes count.1 e))))
+    IsCandidatesFault format.0 tables epoch.0 count.0 bytes count.1 e))))
 
 -- from the place on there are too many bytes for a batch; or there are not, and the batch there is at fault, or more bytes follow
-abbrev pub IsBatchFaultAt : List TableDef → ℕ → Option ℕ → List ℕ → ℕ → CodecFault → Type 0
+abbrev pub IsBatchFaultAt : Tables → ℕ → Option ℕ → List ℕ → ℕ → CodecFault → Type 0
 IsBatchFaultAt tables regions to bytes at e =
     ((¬ (IsBatchSize (length bytes - at))) × (e ≡ OverLimit (at + MAX_BATCH_BYTES) limit.BatchBytes))
     ⊎ (IsBatchSize (length bytes - at) × FirstOrLater (IsFrontFault tables regions to bytes at e) (BatchStands tables regions to bytes at) (λ batch. IsTrailing bytes batch.1 e))
 
 -- the fault that the bytes have as a batch
-abbrev pub IsBatchFault : List TableDef → ℕ → List ℕ → CodecFault → Type 0
+abbrev pub IsBatchFault : Tables → ℕ → List ℕ → CodecFault → Type 0
 IsBatchFault tables regions bytes e = IsBatchFaultAt tables regions None bytes 0 e
 
 -- the question of a region for a batch: whom it is from, or whom it goes to, which may not be the one that asks, or the epoch is at fault; or more bytes follow
@@ -142,12 +146,12 @@ IsFetchFault regions bytes at e =
     FirstOrLater (IsEpochFault bytes to.1 e) (EpochStands bytes to.1) (λ epoch. IsTrailing bytes epoch.1 e)))
 
 -- what the kind of a packet wants behind it is at fault: whom a batch goes to, or the batch; or the question
-abbrev pub IsPacketFaultAt : List TableDef → ℕ → ℕ → List ℕ → ℕ → CodecFault → Type 0
+abbrev pub IsPacketFaultAt : Tables → ℕ → ℕ → List ℕ → ℕ → CodecFault → Type 0
 IsPacketFaultAt tables regions kind bytes at e =
     ((kind ≡ 1) × FirstOrLater (IsRegionFault regions bytes at e) (RegionStands regions bytes at) (λ to. IsBatchFaultAt tables regions (Some to.0) bytes to.1 e))
     ⊎ ((kind ≡ 2) × IsFetchFault regions bytes at e)
 
 -- the fault that the bytes have as a packet: its kind, or what the kind wants
-abbrev pub IsPacketFault : List TableDef → ℕ → List ℕ → CodecFault → Type 0
+abbrev pub IsPacketFault : Tables → ℕ → List ℕ → CodecFault → Type 0
 IsPacketFault tables regions bytes e =
     FirstOrLater (IsByteFault IsPacketKind (BadTag 0) bytes 0 e) (λ kind. ByteStands bytes 0 kind × IsPacketKind kind.0) (λ kind. IsPacketFaultAt tables regions kind.0 bytes kind.1 e)

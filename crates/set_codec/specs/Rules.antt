@@ -1,22 +1,25 @@
 -- The rules of the format, each stated once. What stands keeps them, and a fault is that one is broken.
-use Rattle.std.specs.Prelude.{◌≡◌, ◌⊎◌, ℕ, ◌+◌, ◌<◌, ◌≤◌, false, Option, Some, None, List, [], length, slice_index_or}
+use Rattle.std.specs.Prelude.{◌≡◌, ◌⊎◌, ℕ, ◌+◌, ◌<◌, ◌≤◌, Bool, true, false, Option, Some, None, List, length, slice_index_or}
 use Rattle.std.specs.declared.cmp.Ordering.TheVariants as order
 use Rattle.geo_base.specs.declared.limits.TheConstants.{MAX_AGE, MAX_CANDIDATES, MAX_BATCH_BYTES, MAX_SET_ROWS, MAX_SET_BYTES, LAST_EPOCH}
 use Rattle.geo_base.specs.declared.cell.Cell.{Cell}
 use Rattle.geo_base.specs.declared.row_id.RowId.{RowId}
 use Rattle.geo_base.specs.Order.{row_cmp}
-use Rattle.geo_schema.specs.declared.column.ColumnDef.{ColumnDef}
-use Rattle.geo_schema.specs.declared.column.Kind.TheVariants as kind
 use Rattle.geo_schema.specs.declared.table.TableDef.{TableDef}
 use Rattle.geo_schema.specs.Rows.{Suits}
+use Rattle.geo_schema.specs.Schemas.{Tables, IsTableNo}
+use Rattle.geo_schema.specs.Tables.{no_column}
+use Rattle.set_codec.specs.declared.format.Format.{Format}
+use Rattle.set_codec.specs.declared.format.Format.TheVariants as format
 use Rattle.set_codec.specs.declared.kind.Kind.{Kind}
+use Rattle.set_codec.specs.declared.kind.Kind.TheVariants as kind
 use Rattle.set_codec.specs.Spelling.{mark, kind_byte}
 
 -- ---- batches and packets
 
--- a batch begins with the mark
-abbrev pub IsMark : List ℕ → Type 0
-IsMark bytes = bytes ≡ mark
+-- a batch begins with the mark of its format
+abbrev pub IsMark : List ℕ → Format → Type 0
+IsMark bytes format = bytes ≡ mark format
 
 -- a region is one of so many
 abbrev pub IsRegionOf : ℕ → ℕ → Type 0
@@ -63,22 +66,25 @@ IsSetSize bytes = bytes ≤ MAX_SET_BYTES
 
 -- ---- changes
 
--- a table is one of the schema's
-abbrev pub IsTableOf : List TableDef → ℕ → Type 0
-IsTableOf tables table = table < length tables
+-- a table is one of the schema's, be it a hidden one
+abbrev pub IsTableOf : Tables → ℕ → Type 0
+IsTableOf tables table = IsTableNo tables table
 
--- a byte is that of a kind of change
-abbrev pub IsKind : ℕ → Type 0
-IsKind byte = (kind : Kind) × (byte ≡ kind_byte kind)
+-- both formats have puts and removals, and GGB2 has touches too
+abbrev pub has_kind : Format → Kind → Bool
+has_kind format.Ggb1 kind.Put = true
+has_kind format.Ggb1 kind.Remove = true
+has_kind format.Ggb1 kind.Touch = false
+has_kind format.Ggb2 kind = true
+
+-- the byte of a change is that of its kind, and the format has the kind
+abbrev pub IsKind : Format → ℕ → Kind → Type 0
+IsKind format byte kind = (byte ≡ kind_byte kind) × (has_kind format kind ≡ true)
 
 -- a row is greater than the one before it, if there is one
 abbrev pub IsAfter : Option RowId → RowId → Type 0
 IsAfter None row = Unit {0}
 IsAfter (Some last) row = row_cmp last row ≡ order.Less
-
--- a column of nothing, which no table has
-abbrev pub no_column : ColumnDef
-no_column = record { name = []; kind = kind.Int; not_null = false }
 
 -- a cell is one that suits the column of the table at the place
 abbrev pub IsTaken : TableDef → ℕ → Cell → Type 0

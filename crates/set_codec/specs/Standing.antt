@@ -6,6 +6,7 @@ use Rattle.geo_base.specs.declared.cell.Cell.{Cell}
 use Rattle.geo_base.specs.declared.cell.Cell.TheVariants as cell
 use Rattle.geo_base.specs.declared.row_id.RowId.{RowId}
 use Rattle.geo_schema.specs.declared.table.TableDef.{TableDef}
+use Rattle.geo_schema.specs.Schemas.{Tables}
 use Rattle.row_codec.specs.Fields.{ByteStands, NumberStands, FieldStands}
 use Rattle.row_codec.specs.Parts.{Keeps}
 use Rattle.row_codec.specs.Places.{StandsAt}
@@ -14,16 +15,21 @@ use Rattle.write_set.specs.declared.candidate.Candidate.{Candidate}
 use Rattle.write_set.specs.declared.batch.Batch.{Batch}
 use Rattle.write_set.specs.Journal.{IsCandidate, IsBatch}
 use Rattle.write_set.specs.Sets.{ChangeOfRow}
+use Rattle.set_codec.specs.declared.format.Format.{Format}
 use Rattle.set_codec.specs.declared.kind.Kind.{Kind}
-use Rattle.set_codec.specs.Fits.{AreTaken, FitsTable, FitsTables, HasCells, HaveCells}
-use Rattle.set_codec.specs.Rules.{IsMark, IsRegionOf, IsOther, IsSealable, IsCandidateCount, IsStartOf, IsRowCount, IsTableOf, IsAfter, IsTaken}
-use Rattle.set_codec.specs.Spelling.{other_cells, kind_byte, changes_spelling, candidates_spelling, batch_spelling}
+use Rattle.set_codec.specs.Fits.{AreTaken, FitsTable, FitsTables, HasCells, HaveCells, HasChange, HasChanges}
+use Rattle.set_codec.specs.Rules.{IsMark, IsRegionOf, IsOther, IsSealable, IsCandidateCount, IsStartOf, IsRowCount, IsTableOf, IsKind, IsAfter, IsTaken}
+use Rattle.set_codec.specs.Spelling.{other_cells, changes_spelling, candidates_spelling, batch_spelling}
 
 -- ---- fields
 
--- the mark
-abbrev pub MarkStands : List ℕ → ℕ → List ℕ × ℕ → Type 0
-MarkStands bytes at = Keeps (FieldStands 4 bytes at) IsMark
+-- a part stands there, and names something by the rule
+abbrev pub Names : {A B : Type 0} → (A × ℕ → Type 0) → (A → B → Type 0) → B × ℕ → Type 0
+Names {A} Stands Rule x = (part : A) × Stands (part, x.1) × Rule part x.0
+
+-- the format whose mark stands there
+abbrev pub MarkStands : List ℕ → ℕ → Format × ℕ → Type 0
+MarkStands bytes at = Names (FieldStands 4 bytes at) IsMark
 
 -- the number of one of so many regions
 abbrev pub RegionStands : ℕ → List ℕ → ℕ → ℕ × ℕ → Type 0
@@ -50,12 +56,12 @@ abbrev pub RowsStand : List ℕ → ℕ → ℕ × ℕ → Type 0
 RowsStand bytes at = Keeps (NumberStands w32 bytes at) IsRowCount
 
 -- the number of a table that there is
-abbrev pub TableStands : List TableDef → List ℕ → ℕ → ℕ × ℕ → Type 0
+abbrev pub TableStands : Tables → List ℕ → ℕ → ℕ × ℕ → Type 0
 TableStands tables bytes at = Keeps (ByteStands bytes at) (IsTableOf tables)
 
--- the byte of a kind
-abbrev pub KindStands : List ℕ → ℕ → Kind × ℕ → Type 0
-KindStands bytes at x = ByteStands bytes at (kind_byte x.0, x.1)
+-- the kind whose byte stands there, one that the format has
+abbrev pub KindStands : Format → List ℕ → ℕ → Kind × ℕ → Type 0
+KindStands format bytes at = Names (ByteStands bytes at) (IsKind format)
 
 -- a cell that is taken by the column at the place
 abbrev pub TakenStands : TableDef → ℕ → List ℕ → ℕ → Cell × ℕ → Type 0
@@ -92,28 +98,32 @@ abbrev pub row_before : Option RowId → List ChangeOfRow → Option RowId
 row_before last [] = last
 row_before last (c ∷ cs) = row_before (Some c.0) cs
 
--- changes that fit the tables, of rows that rise from the one before them
-pub record ChangesStand (tables : List TableDef) (last : Option RowId) (bytes : List ℕ) (at : ℕ) (x : List ChangeOfRow × ℕ) : Type 0 where
+-- changes that the format has and that fit the tables, of rows that rise from the one before them
+pub record ChangesStand (format : Format) (tables : Tables) (last : Option RowId) (bytes : List ℕ) (at : ℕ) (x : List ChangeOfRow × ℕ) : Type 0 where
   pub fits : AllByRecursion (FitsTable tables) x.0
   pub cells : AllByRecursion HasCells x.0
+  pub has : AllByRecursion (HasChange format) x.0
   pub after : AreAfter last x.0
   pub stands : StandsAt (changes_spelling tables x.0) bytes at x.1
 
--- candidates of the epoch that fit the tables
-pub record CandidatesStand (tables : List TableDef) (epoch : ℕ) (bytes : List ℕ) (at : ℕ) (x : List Candidate × ℕ) : Type 0 where
+-- candidates of the epoch whose changes the format has, and which fit the tables
+pub record CandidatesStand (format : Format) (tables : Tables) (epoch : ℕ) (bytes : List ℕ) (at : ℕ) (x : List Candidate × ℕ) : Type 0 where
   pub lawful : AllByRecursion (IsCandidate epoch) x.0
   pub fits : AllByRecursion (FitsTables tables) x.0
   pub cells : AllByRecursion HaveCells x.0
+  pub has : AllByRecursion (HasChanges format) x.0
   pub stands : StandsAt (candidates_spelling tables x.0) bytes at x.1
 
 -- ---- batches
 
--- a lawful batch of one of so many regions, for the region that it goes to, if it is in a packet
-pub record BatchStands (tables : List TableDef) (regions : ℕ) (to : Option ℕ) (bytes : List ℕ) (at : ℕ) (x : Batch × ℕ) : Type 0 where
+-- a lawful batch of one of so many regions, for the region that it goes to, if it is in a packet; it is spelled in one of the formats
+pub record BatchStands (tables : Tables) (regions : ℕ) (to : Option ℕ) (bytes : List ℕ) (at : ℕ) (x : Batch × ℕ) : Type 0 where
   pub here : IsRegionOf regions x.0.region
   pub other : IsOther to x.0.region
   pub sealable : IsSealable x.0.epoch
   pub lawful : IsBatch x.0.region x.0.epoch x.0
   pub items : AllByRecursion (FitsTables tables) x.0.items
   pub cells : AllByRecursion HaveCells x.0.items
-  pub stands : StandsAt (batch_spelling tables x.0) bytes at x.1
+  pub format : Format
+  pub has : AllByRecursion (HasChanges format) x.0.items
+  pub stands : StandsAt (batch_spelling format tables x.0) bytes at x.1

@@ -5,8 +5,7 @@ ghost use Rattle.geo_base.specs.Results.{Gives, Reads, Refuses};
 ghost use Rattle.set_codec.specs.declared.fault.CodecFault.TheVariants.{NoMemory};
 ghost use Rattle.set_codec.specs.Alone.{SpellsBatch};
 ghost use Rattle.set_codec.specs.Faults.{IsBatchFault};
-ghost use Rattle.set_codec.specs.Fits.{FitsRegions};
-ghost use Rattle.set_codec.specs.Spelling.{batch_spelling};
+ghost use Rattle.set_codec.specs.Fits.{FitsRegions, IsSpelling};
 ghost use Rattle.set_codec.specs.inner.Reading.{candidate_at, candidates_at, front_at, body_at, batch_at};
 
 use crate::change_reading::read_changes;
@@ -14,6 +13,7 @@ use crate::fault::{CodecFault, Limit};
 use crate::fields::{
     read_count, read_end, read_epoch, read_mark, read_other, read_rows, read_start,
 };
+use crate::format::Format;
 use geo_base::limits::{MAX_BATCH_BYTES, MAX_SET_BYTES};
 use geo_base::{Epoch, RegionNo};
 use geo_schema::Schema;
@@ -24,17 +24,18 @@ use write_set::{Batch, Candidate, CandidateList, WriteSet};
 fn read_candidate(
     alloc: Global,
     schema: &Schema,
+    format: Format,
     epoch: Epoch,
     bytes: &[u8],
     at: usize,
 ) -> Result<(Candidate, usize), CodecFault>
     requires { at ≤ length bytes.now }
-    ensures exact { Gives NoMemory (λ x. x) result (candidate_at schema.now epoch bytes.now at) }
+    ensures exact { Gives NoMemory (λ x. x) result (candidate_at format schema.now epoch bytes.now at) }
     ensures within { IfOk result (λ x. x.1 ≤ length bytes.now) }
 {
     let (start, next) = read_start(bytes, at, epoch)?;
     let (rows, from) = read_rows(bytes, next)?;
-    let (changes, next) = read_changes(alloc, schema, rows, bytes, from)?;
+    let (changes, next) = read_changes(alloc, schema, format, rows, bytes, from)?;
     if next.saturating_sub(from) as u64 > MAX_SET_BYTES {
         return Err(CodecFault::OverLimit(at, Limit::SetBytes));
     }
@@ -49,19 +50,20 @@ fn read_candidate(
 fn read_candidates(
     alloc: Global,
     schema: &Schema,
+    format: Format,
     epoch: Epoch,
     count: u32,
     bytes: &[u8],
     at: usize,
 ) -> Result<(Vec<Candidate>, usize), CodecFault>
     requires { at ≤ length bytes.now }
-    ensures exact { Gives NoMemory (λ x. (x.0.items, x.1)) result (candidates_at schema.now epoch count bytes.now at) }
+    ensures exact { Gives NoMemory (λ x. (x.0.items, x.1)) result (candidates_at format schema.now epoch count bytes.now at) }
     ensures within { IfOk result (λ x. x.1 ≤ length bytes.now) }
 {
     let mut items = Vec::new(alloc);
     let mut next = at;
     for _ in 0..count {
-        let (item, behind) = read_candidate(alloc, schema, epoch, bytes, next)?;
+        let (item, behind) = read_candidate(alloc, schema, format, epoch, bytes, next)?;
         items.push(item)?;
         next = behind;
     }
@@ -81,11 +83,11 @@ fn read_front(
     requires { at ≤ length bytes.now }
     ensures exact { Gives NoMemory (λ x. x) result (front_at schema.now regions to bytes.now at) }
 {
-    let (_mark, next) = read_mark(bytes, at)?;
+    let (format, next) = read_mark(bytes, at)?;
     let (region, next) = read_other(bytes, next, regions, to, 1)?;
     let (epoch, next) = read_epoch(bytes, next)?;
     let (count, next) = read_count(bytes, next)?;
-    let (items, next) = read_candidates(alloc, schema, epoch, count, bytes, next)?;
+    let (items, next) = read_candidates(alloc, schema, format, epoch, count, bytes, next)?;
     let items = CandidateList::new(items);
     let batch = Batch {
         region,
@@ -131,7 +133,7 @@ pub(crate) fn read_batch_at(
     read_body(alloc, schema, regions, to, bytes, at)
 }
 
-/// The batch that the bytes spell, where `regions` is the number of regions, from 1 to 8. Takes a step for
+/// The batch that the bytes spell, in either format, where `regions` is the number of regions, from 1 to 8. Takes a step for
 /// each byte, and for each cell one for each key place.
 ///
 /// Nothing is reserved for a number that the bytes announce. By the sizes of the types, which nothing proves,
@@ -146,7 +148,7 @@ pub fn read_batch(
     bytes: &[u8],
 ) -> Result<Batch, CodecFault>
     ensures fits { IfOk result (λ batch. regions ≤ MAX_REGIONS → FitsRegions schema.now regions batch) }
-    ensures spelled { IfOk result (λ batch. batch_spelling schema.now batch ≡ bytes.now) }
+    ensures spelled { IfOk result (λ batch. IsSpelling schema.now batch bytes.now) }
     ensures only { Reads NoMemory (λ b. b) result (SpellsBatch schema.now regions bytes.now) }
     ensures fault { IfErr result (λ e. (e ≡ NoMemory) ⊎ IsBatchFault schema.now regions bytes.now e) }
     ensures refused { Refuses NoMemory result (IsBatchFault schema.now regions bytes.now) }

@@ -3,12 +3,13 @@ ghost use Rattle.std.specs.Prelude.{◌≡◌, ◌≤◌, ◌<◌, length, IfOk}
 ghost use Rattle.std.specs.Option.{option_copied};
 ghost use Rattle.geo_base.specs.Results.{Gives};
 ghost use Rattle.geo_schema.specs.Schemas.{table_at};
-ghost use Rattle.geo_schema.specs.Tables.{IsTable};
+ghost use Rattle.geo_schema.specs.Tables.{TakesRows};
 ghost use Rattle.set_codec.specs.declared.fault.CodecFault.TheVariants.{NoMemory};
 ghost use Rattle.set_codec.specs.inner.Reading.{is_after, table_no_at, done_at, change_at, last_row, changes_at};
 
 use crate::fault::CodecFault;
 use crate::fields::read_kind;
+use crate::format::Format;
 use crate::kind::Kind;
 use crate::row_reading::{read_key, read_row};
 use geo_base::{RowId, RowImage, TableNo};
@@ -27,7 +28,7 @@ fn read_table<'a>(
     requires { at ≤ length bytes.now }
     ensures exact { Gives NoMemory (λ x. (x.0, x.2)) result (table_no_at schema.entry.now bytes.now at) }
     ensures table { IfOk result (λ x. x.1.now ≡ table_at schema.entry.now x.0) }
-    ensures rules { IfOk result (λ x. IsTable x.1.now) }
+    ensures rows { IfOk result (λ x. TakesRows x.1.now) }
     ensures within { IfOk result (λ x. x.2 ≤ length bytes.now) }
 {
     let (no, next) = read_byte::<CodecFault>(bytes, at)?;
@@ -58,7 +59,7 @@ fn read_done(
     at: usize,
 ) -> Result<((RowId, Change), usize), CodecFault>
     requires place { at ≤ length bytes.now }
-    requires rules { IsTable table.now }
+    requires rows { TakesRows table.now }
     requires len { length row.key ≡ length table.now.key }
     ensures exact { Gives NoMemory (λ x. x) result (done_at table.now row kind bytes.now at) }
     ensures within { IfOk result (λ x. x.1 ≤ length bytes.now) }
@@ -70,6 +71,7 @@ fn read_done(
             Ok(((row, Change::Put(image)), next))
         }
         Kind::Remove => Ok(((row, Change::Remove), at)),
+        Kind::Touch => Ok(((row, Change::Touch), at)),
     }
 }
 
@@ -78,16 +80,17 @@ fn read_done(
 fn read_change(
     alloc: Global,
     schema: &Schema,
+    format: Format,
     last: Option<&RowId>,
     bytes: &[u8],
     at: usize,
 ) -> Result<((RowId, Change), usize), CodecFault>
     requires { at ≤ length bytes.now }
-    ensures exact { Gives NoMemory (λ x. x) result (change_at schema.now (option_copied last.entry) bytes.now at) }
+    ensures exact { Gives NoMemory (λ x. x) result (change_at format schema.now (option_copied last.entry) bytes.now at) }
     ensures within { IfOk result (λ x. x.1 ≤ length bytes.now) }
 {
     let (no, table, next) = read_table(schema, bytes, at)?;
-    let (kind, next) = read_kind(bytes, next)?;
+    let (kind, next) = read_kind(bytes, next, format)?;
     let (key, next) = read_key(alloc, table, bytes, next)?;
     let row = RowId { table: no, key };
     if !is_after(last, &row) {
@@ -112,19 +115,20 @@ fn last_row(changes: &[(RowId, Change)]) -> Option<&RowId>
 pub(crate) fn read_changes(
     alloc: Global,
     schema: &Schema,
+    format: Format,
     count: u32,
     bytes: &[u8],
     at: usize,
 ) -> Result<(Vec<(RowId, Change)>, usize), CodecFault>
     requires { at ≤ length bytes.now }
-    ensures exact { Gives NoMemory (λ x. (x.0.items, x.1)) result (changes_at schema.now count bytes.now at) }
+    ensures exact { Gives NoMemory (λ x. (x.0.items, x.1)) result (changes_at format schema.now count bytes.now at) }
     ensures within { IfOk result (λ x. x.1 ≤ length bytes.now) }
 {
     let mut changes: Vec<(RowId, Change)> = Vec::new(alloc);
     let mut next = at;
     for _ in 0..count {
         let last = last_row(changes.as_slice());
-        let (change, behind) = read_change(alloc, schema, last, bytes, next)?;
+        let (change, behind) = read_change(alloc, schema, format, last, bytes, next)?;
         changes.push(change)?;
         next = behind;
     }

@@ -3,27 +3,41 @@ ghost use Rattle.std.specs.Prelude.{◌≡◌, ◌≤◌, ◌<◌, length, IfOk}
 ghost use Rattle.geo_base.specs.declared.limits.TheConstants.{LAST_EPOCH, MAX_SET_ROWS};
 ghost use Rattle.geo_base.specs.Results.{Gives};
 ghost use Rattle.set_codec.specs.declared.fault.CodecFault.TheVariants.{NoMemory};
-ghost use Rattle.set_codec.specs.inner.Reading.{mark_at, region_at, is_other, other_at, epoch_at, count_at, start_at, rows_at, kind_at, end_at};
+ghost use Rattle.set_codec.specs.inner.Reading.{format_named, mark_at, region_at, is_other, other_at, epoch_at, count_at, start_at, rows_at, kind_named, kind_at, end_at};
 
 use crate::fault::{CodecFault, Limit};
-use crate::kind;
-use crate::kind::{Kind, MARK};
+use crate::format::Format;
+use crate::kind::Kind;
+use crate::{format, kind};
 use geo_base::limits::{LAST_EPOCH, MAX_AGE, MAX_CANDIDATES, MAX_SET_ROWS};
 use geo_base::{Epoch, RegionNo};
 use row_codec::fields::{read_byte, read_field, read_u32};
 
-/// The mark that a batch begins with.
+/// The format that has the mark, if there is one.
+fn format_named(mark: &[u8]) -> Option<Format>
+    ensures { result ≡ format_named mark.now }
+{
+    if mark == format::GGB1.as_slice() {
+        Some(Format::Ggb1)
+    } else if mark == format::GGB2.as_slice() {
+        Some(Format::Ggb2)
+    } else {
+        None
+    }
+}
+
+/// The format of a batch, by the mark that it begins with.
 #[tactic(auto, unfolding(crate::specs::inner::Reading::mark_at))]
-pub(crate) fn read_mark(bytes: &[u8], at: usize) -> Result<(&[u8], usize), CodecFault>
+pub(crate) fn read_mark(bytes: &[u8], at: usize) -> Result<(Format, usize), CodecFault>
     requires { at ≤ length bytes.now }
-    ensures exact { Gives NoMemory (λ x. (x.0.now, x.1)) result (mark_at bytes.now at) }
+    ensures exact { Gives NoMemory (λ x. x) result (mark_at bytes.now at) }
     ensures within { IfOk result (λ x. x.1 ≤ length bytes.now) }
 {
     let (field, next) = read_field::<CodecFault>(bytes, at, 4)?;
-    if field != MARK.as_slice() {
-        return Err(CodecFault::BadTag(at));
+    match format_named(field) {
+        Some(format) => Ok((format, next)),
+        None => Err(CodecFault::BadTag(at)),
     }
-    Ok((field, next))
 }
 
 /// The number of one of so many regions.
@@ -135,18 +149,36 @@ pub(crate) fn read_rows(bytes: &[u8], at: usize) -> Result<(u32, usize), CodecFa
     Ok((rows, next))
 }
 
-/// The kind of a change.
+/// The kind of change that has the byte, if it is one of the format.
+fn kind_named(format: Format, byte: u8) -> Option<Kind>
+    ensures { result ≡ kind_named format byte }
+{
+    match byte {
+        kind::PUT => Some(Kind::Put),
+        kind::REMOVE => Some(Kind::Remove),
+        kind::TOUCH => match format {
+            Format::Ggb1 => None,
+            Format::Ggb2 => Some(Kind::Touch),
+        },
+        _ => None,
+    }
+}
+
+/// The kind of a change, one of the format.
 #[tactic(auto, unfolding(crate::specs::inner::Reading::kind_at))]
-pub(crate) fn read_kind(bytes: &[u8], at: usize) -> Result<(Kind, usize), CodecFault>
+pub(crate) fn read_kind(
+    bytes: &[u8],
+    at: usize,
+    format: Format,
+) -> Result<(Kind, usize), CodecFault>
     requires { at ≤ length bytes.now }
-    ensures exact { Gives NoMemory (λ x. x) result (kind_at bytes.now at) }
+    ensures exact { Gives NoMemory (λ x. x) result (kind_at format bytes.now at) }
     ensures within { IfOk result (λ x. x.1 ≤ length bytes.now) }
 {
     let (byte, next) = read_byte::<CodecFault>(bytes, at)?;
-    match byte {
-        kind::PUT => Ok((Kind::Put, next)),
-        kind::REMOVE => Ok((Kind::Remove, next)),
-        _ => Err(CodecFault::BadTag(at)),
+    match kind_named(format, byte) {
+        Some(kind) => Ok((kind, next)),
+        None => Err(CodecFault::BadTag(at)),
     }
 }
 

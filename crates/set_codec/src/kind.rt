@@ -5,15 +5,15 @@
 pub enum Kind {
     Put,
     Remove,
+    Touch,
 }
 
 pub const PUT: u8 = 1;
 
 pub const REMOVE: u8 = 2;
 
+pub const TOUCH: u8 = 3;
+
 pub const BATCH: u8 = 1;
 
 pub const FETCH: u8 = 2;
-
-/// What each batch begins with.
-pub const MARK: [u8; 4] = *b"GGB1";

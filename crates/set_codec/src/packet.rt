@@ -23,7 +23,7 @@ pub type ByteList = Many<u8>;
 /// What one region sends to another.
 #[derive(Debug, Drop)]
 pub enum Packet {
-    /// The spelling of a batch, on its way to the region `to`.
+    /// A spelling of a batch, in either format, on its way to the region `to`.
     Batch {
         to: RegionNo,
         bytes: ByteList,

@@ -1,10 +1,9 @@
 //! The cells of rows, each tested against its column once it is read.
 ghost use Rattle.std.specs.Prelude.{◌≡◌, ◌≤◌, ◌<◌, length, position, nat_eq, is_none, slice_index_or, IfOk, IfSome};
 ghost use Rattle.geo_base.specs.Results.{Gives};
-ghost use Rattle.geo_schema.specs.Tables.{IsTable};
+ghost use Rattle.geo_schema.specs.Tables.{TakesRows, no_column};
 ghost use Rattle.geo_schema.specs.inner.Rows.{cell_fault};
 ghost use Rattle.row_codec.specs.inner.Reading.{cell_at};
-ghost use Rattle.set_codec.specs.Rules.{no_column};
 ghost use Rattle.set_codec.specs.declared.fault.CodecFault.TheVariants.{NoMemory};
 ghost use Rattle.set_codec.specs.inner.Reading.{lifted, taken_at, key_at, row_cell_at, next_cell_at, row_at};
 
@@ -71,7 +70,7 @@ fn read_key_cells(
     at: usize,
 ) -> Result<(Vec<Cell>, usize), CodecFault>
     requires place { at ≤ length bytes.now }
-    requires rules { IsTable table.now }
+    requires rows { TakesRows table.now }
     ensures exact { Gives NoMemory (λ x. (x.0.items, x.1)) result (key_at table.now bytes.now at) }
     ensures len { IfOk result (λ x. length x.0.items ≡ length table.now.key) }
     ensures within { IfOk result (λ x. x.1 ≤ length bytes.now) }
@@ -96,7 +95,7 @@ pub(crate) fn read_key(
     at: usize,
 ) -> Result<(Key, usize), CodecFault>
     requires place { at ≤ length bytes.now }
-    requires rules { IsTable table.now }
+    requires rows { TakesRows table.now }
     ensures exact { Gives NoMemory (λ x. x) result (key_at table.now bytes.now at) }
     ensures len { IfOk result (λ x. length x.0 ≡ length table.now.key) }
     ensures within { IfOk result (λ x. x.1 ≤ length bytes.now) }
@@ -146,7 +145,7 @@ pub(crate) fn read_row(
     at: usize,
 ) -> Result<(Vec<Cell>, usize), CodecFault>
     requires place { at ≤ length bytes.now }
-    requires rules { IsTable table.now }
+    requires rows { TakesRows table.now }
     requires len { length key.now ≡ length table.now.key }
     ensures exact { Gives NoMemory (λ x. (x.0.items, x.1)) result (row_at table.now key.now bytes.now at) }
     ensures len { IfOk result (λ x. length x.0.items ≡ length table.now.columns) }

@@ -15,7 +15,7 @@ fn candidates_size(items: &[Candidate]) -> u64
     size
 }
 
-/// The number of bytes of the spelling of a batch, or the greatest number where they are more than that.
+/// The number of bytes of the GGB2 spelling of a batch, or the greatest number where they are more than that.
 /// The cost is the number of cells.
 #[tactic(auto, using(crate::specs::laws::Lengths::counts_bytes))]
 pub fn batch_size(batch: &Batch) -> u64

@@ -2,13 +2,14 @@
 ghost use Rattle.std.specs.Prelude.{◌≡◌, ◌<◌, ◌≤◌, ◌++◌, length, OnOk, IfOk};
 ghost use Rattle.geo_base.specs.declared.limits.TheConstants.{MAX_ROW_CELLS, MAX_SET_ROWS, MAX_CANDIDATES};
 ghost use Rattle.row_codec.specs.Spelling.{cells_spelling, AreCells};
-ghost use Rattle.geo_schema.specs.Schemas.{table_at};
+ghost use Rattle.geo_schema.specs.Schemas.{IsTableNo, table_at};
+ghost use Rattle.set_codec.specs.declared.format.Format.TheVariants.{Ggb2};
 ghost use Rattle.set_codec.specs.Fits.{FitsSchema, FitsTables, FitsTable, HasCells, HaveCells};
-ghost use Rattle.set_codec.specs.Spelling.{other_cells, number_spelling, change_spelling, changes_spelling, candidate_spelling, candidates_spelling, batch_spelling};
+ghost use Rattle.set_codec.specs.Spelling.{kind_of, kind_byte, other_cells, cells_behind, number_spelling, change_spelling, changes_spelling, candidate_spelling, candidates_spelling, batch_spelling};
 ghost use Rattle.std.specs.List.{All};
 
-use crate::kind;
 use crate::size::batch_size;
+use crate::{format, kind};
 use geo_base::{Cell, NoMemory, RowId};
 use geo_schema::{Schema, TableDef, is_in};
 use row_codec::{cell_bytes, key_bytes};
@@ -36,11 +37,23 @@ fn write_others(key: &[u8], cells: &[Cell], out: &mut Vec<u8>) -> Result<(), NoM
     Ok(())
 }
 
+#[tactic(auto, using(crate::specs::laws::Rows::table_is))]
 fn table_of<'a>(schema: &'a Schema, row: &RowId) -> &'a TableDef
-    requires { row.now.table < length schema.now }
+    requires { IsTableNo schema.now row.now.table }
     ensures { result.now ≡ table_at schema.entry.now row.now.table }
 {
     schema.table(row.table).unwrap()
+}
+
+/// The byte of what is done to a row.
+fn kind_byte(change: &Change) -> u8
+    ensures { result ≡ kind_byte (kind_of change.now) }
+{
+    match change {
+        Change::Put(_) => kind::PUT,
+        Change::Remove => kind::REMOVE,
+        Change::Touch => kind::TOUCH,
+    }
 }
 
 #[tactic(auto, using(crate::proofs::Readable::put_cells), unfolding(crate::specs::Spelling::change_spelling))]
@@ -54,16 +67,11 @@ fn write_change(
     ensures ok { OnOk result (out.new.items ≡ out.old.items ++ change_spelling schema.now (row.now, change.now)) }
     ensures readable { OnOk result (HasCells (row.now, change.now)) }
 {
+    out.extend_from_slice(&[row.table, kind_byte(change)])?;
+    key_bytes(&row.key, out)?;
     match change {
-        Change::Put(image) => {
-            out.extend_from_slice(&[row.table, kind::PUT])?;
-            key_bytes(&row.key, out)?;
-            write_others(table_of(schema, row).key.items(), image.cells(), out)
-        }
-        Change::Remove => {
-            out.extend_from_slice(&[row.table, kind::REMOVE])?;
-            key_bytes(&row.key, out)
-        }
+        Change::Put(image) => write_others(table_of(schema, row).key.items(), image.cells(), out),
+        Change::Remove | Change::Touch => Ok(()),
     }
 }
 
@@ -109,16 +117,16 @@ fn write_candidates(schema: &Schema, items: &[Candidate], out: &mut Vec<u8>) -> 
     Ok(())
 }
 
-/// The spelling of a batch. Takes a step for each byte, and for each cell one for each key place.
+/// The GGB2 spelling of a batch. Takes a step for each byte, and for each cell one for each key place.
 #[tactic(auto, unfolding(crate::specs::Spelling::batch_spelling))]
 pub fn batch_bytes(alloc: Global, schema: &Schema, batch: &Batch) -> Result<Vec<u8>, NoMemory>
     requires { FitsSchema schema.now batch.now }
-    ensures ok { IfOk result (λ bytes. bytes.items ≡ batch_spelling schema.now batch.now) }
+    ensures ok { IfOk result (λ bytes. bytes.items ≡ batch_spelling Ggb2 schema.now batch.now) }
     ensures readable { IfOk result (λ _. All HaveCells batch.now.items) }
 {
     let items = batch.items.items();
     let mut out = Vec::with_capacity(alloc, batch_size(batch) as usize)?;
-    out.extend_from_slice(&kind::MARK)?;
+    out.extend_from_slice(&format::GGB2)?;
     out.push(batch.region)?;
     write_number(batch.epoch, &mut out)?;
     write_number(items.len() as u32, &mut out)?;

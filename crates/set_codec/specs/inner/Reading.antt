@@ -1,5 +1,5 @@
 -- Inner: how the readers of batches and packets go from left to right, and stop at the first fault that they meet.
-use Rattle.std.specs.Prelude.{ℕ, ◌+◌, ◌-◌, Bool, true, ◌&&◌, not, nat_lt, nat_le, ◌==◌, if◌then◌else◌, Option, None, Some, is_none, List, [], ◌∷◌, length, drop, slice_index, slice_index_or, position, nat_eq, Result, Ok, Err}
+use Rattle.std.specs.Prelude.{ℕ, ◌+◌, ◌-◌, Bool, true, ◌&&◌, not, nat_lt, nat_le, ◌==◌, if◌then◌else◌, Option, None, Some, is_some, is_none, List, [], ◌∷◌, length, drop, slice_index, slice_index_or, position, nat_eq, Result, Ok, Err}
 use Rattle.std.specs.Cmp.Lexicographic.{pointwise}
 use Rattle.std.specs.Int.{w32}
 use Rattle.std.specs.Ordering.{is_lt}
@@ -11,32 +11,43 @@ use Rattle.geo_base.specs.Order.{row_cmp}
 use Rattle.geo_base.specs.Results.{Read, ◌>>=◌}
 use Rattle.geo_schema.specs.declared.table.TableDef.{TableDef}
 use Rattle.geo_schema.specs.inner.Rows.{cell_fault}
-use Rattle.geo_schema.specs.Schemas.{table_at}
+use Rattle.geo_schema.specs.Schemas.{Tables, table_numbered, table_at}
+use Rattle.geo_schema.specs.Tables.{no_column}
 use Rattle.row_codec.specs.declared.fault.CellReadFault.{CellReadFault}
 use Rattle.row_codec.specs.inner.Fields.{field_at, byte_at, number_at}
 use Rattle.row_codec.specs.inner.Reading.{cell_at}
 use Rattle.row_codec.specs.inner.Things.{things_at}
-use Rattle.write_set.specs.declared.change.Change.TheVariants.{Put, Remove}
+use Rattle.write_set.specs.declared.change.Change.TheVariants.{Put, Remove, Touch}
 use Rattle.write_set.specs.declared.candidate.Candidate.{Candidate}
 use Rattle.write_set.specs.declared.batch.Batch.{Batch}
 use Rattle.write_set.specs.Sets.{ChangeOfRow}
 use Rattle.set_codec.specs.declared.fault.CodecFault.{CodecFault}
 use Rattle.set_codec.specs.declared.fault.CodecFault.TheVariants.{Short, BadTag, NotOrdered, BadRow, BadStart, OverLimit, Trailing}
 use Rattle.set_codec.specs.declared.fault.Limit.TheVariants as limit
+use Rattle.set_codec.specs.declared.format.Format.{Format}
+use Rattle.set_codec.specs.declared.format.Format.TheVariants as format
 use Rattle.set_codec.specs.declared.kind.Kind.{Kind}
 use Rattle.set_codec.specs.declared.kind.Kind.TheVariants as kind
 use Rattle.set_codec.specs.declared.packet.Packet.{Packet}
 use Rattle.set_codec.specs.declared.packet.Packet.TheVariants as packet
 use Rattle.set_codec.specs.CellFaults.{fault_of}
-use Rattle.set_codec.specs.Rules.{no_column}
 use Rattle.set_codec.specs.Spelling.{mark}
 
 -- ---- fields
 
-unfoldable pub mark_at : List ℕ → ℕ → Read CodecFault (List ℕ)
+-- what a part names, if it is something, with the place behind the part
+abbrev pub named_at : {A : Type 0} → Option A → ℕ → CodecFault → Read CodecFault A
+named_at (Some x) next fault = Ok (x, next)
+named_at None next fault = Err fault
+
+-- the format that has the mark
+abbrev pub format_named : List ℕ → Option Format
+format_named field = if pointwise nat_eq field (mark format.Ggb1) then Some format.Ggb1 else if pointwise nat_eq field (mark format.Ggb2) then Some format.Ggb2 else None
+
+unfoldable pub mark_at : List ℕ → ℕ → Read CodecFault Format
 mark_at bytes at = do
   field ← field_at Short 4 bytes at
-  if pointwise nat_eq field.0 mark then Ok field else Err (BadTag at)
+  named_at (format_named field.0) field.1 (BadTag at)
 
 unfoldable pub region_at : ℕ → List ℕ → ℕ → Read CodecFault ℕ
 region_at regions bytes at = do
@@ -74,15 +85,24 @@ rows_at bytes at = do
   rows ← number_at Short w32 bytes at
   if nat_le 1 rows.0 && nat_le rows.0 MAX_SET_ROWS then Ok rows else Err (OverLimit at limit.Rows)
 
-unfoldable pub table_no_at : List TableDef → List ℕ → ℕ → Read CodecFault ℕ
+unfoldable pub table_no_at : Tables → List ℕ → ℕ → Read CodecFault ℕ
 table_no_at tables bytes at = do
   table ← byte_at Short bytes at
-  if nat_lt table.0 (length tables) then Ok table else Err (BadRow at)
+  if is_some (table_numbered tables table.0) then Ok table else Err (BadRow at)
 
-unfoldable pub kind_at : List ℕ → ℕ → Read CodecFault Kind
-kind_at bytes at = do
+-- a touch, where the format has touches
+abbrev pub touch_in : Format → Option Kind
+touch_in format.Ggb1 = None
+touch_in format.Ggb2 = Some kind.Touch
+
+-- the kind that has the byte, if it is one of the format
+abbrev pub kind_named : Format → ℕ → Option Kind
+kind_named format byte = if byte == 1 then Some kind.Put else if byte == 2 then Some kind.Remove else if byte == 3 then touch_in format else None
+
+unfoldable pub kind_at : Format → List ℕ → ℕ → Read CodecFault Kind
+kind_at format bytes at = do
   byte ← byte_at Short bytes at
-  if byte.0 == 1 then Ok (kind.Put, byte.1) else if byte.0 == 2 then Ok (kind.Remove, byte.1) else Err (BadTag at)
+  named_at (kind_named format byte.0) byte.1 (BadTag at)
 
 -- the bytes end at the place
 unfoldable pub end_at : {A : Type 0} → A → List ℕ → ℕ → Result A CodecFault
@@ -131,12 +151,13 @@ done_at table row kind.Put bytes at = do
   image ← row_at table row.key bytes at
   Ok ((row, Put image.0), image.1)
 done_at table row kind.Remove bytes at = Ok ((row, Remove), at)
+done_at table row kind.Touch bytes at = Ok ((row, Touch), at)
 
 -- a change, of a row greater than the last one
-unfoldable pub change_at : List TableDef → Option RowId → List ℕ → ℕ → Read CodecFault ChangeOfRow
-change_at tables last bytes at = do
+unfoldable pub change_at : Format → Tables → Option RowId → List ℕ → ℕ → Read CodecFault ChangeOfRow
+change_at format tables last bytes at = do
   table ← table_no_at tables bytes at
-  kind ← kind_at bytes table.1
+  kind ← kind_at format bytes table.1
   key ← key_at (table_at tables table.0) bytes kind.1
   if is_after last (record { table = table.0; key = key.0 })
       then done_at (table_at tables table.0) (record { table = table.0; key = key.0 }) kind.0 bytes key.1
@@ -153,52 +174,52 @@ abbrev pub row_behind : Option RowId → ChangeOfRow → Option RowId
 row_behind last change = Some change.0
 
 -- so many changes, of rows that rise
-unfoldable pub changes_at : List TableDef → ℕ → List ℕ → ℕ → Read CodecFault (List ChangeOfRow)
-changes_at tables count bytes at = things_at (change_at tables) row_behind count None bytes at
+unfoldable pub changes_at : Format → Tables → ℕ → List ℕ → ℕ → Read CodecFault (List ChangeOfRow)
+changes_at format tables count bytes at = things_at (change_at format tables) row_behind count None bytes at
 
 -- ---- candidates
 
 -- a candidate, whose changes' bytes are counted once the last one is read
-unfoldable pub candidate_at : List TableDef → ℕ → List ℕ → ℕ → Read CodecFault Candidate
-candidate_at tables epoch bytes at = do
+unfoldable pub candidate_at : Format → Tables → ℕ → List ℕ → ℕ → Read CodecFault Candidate
+candidate_at format tables epoch bytes at = do
   start ← start_at epoch bytes at
   rows ← rows_at bytes start.1
-  set ← changes_at tables rows.0 bytes rows.1
+  set ← changes_at format tables rows.0 bytes rows.1
   if nat_le (set.1 - rows.1) MAX_SET_BYTES
       then Ok (record { start = start.0; set = set.0 }, set.1)
       else Err (OverLimit at limit.SetBytes)
 
 -- so many candidates, one after another
-unfoldable pub candidates_at : List TableDef → ℕ → ℕ → List ℕ → ℕ → Read CodecFault (List Candidate)
-candidates_at tables epoch count bytes at = things_at (λ _. candidate_at tables epoch) (λ state _. state) count (tt {0}) bytes at
+unfoldable pub candidates_at : Format → Tables → ℕ → ℕ → List ℕ → ℕ → Read CodecFault (List Candidate)
+candidates_at format tables epoch count bytes at = things_at (λ _. candidate_at format tables epoch) (λ state _. state) count (tt {0}) bytes at
 
 -- ---- batches
 
 -- the batch at the place, for the region that it goes to, if it is in a packet
-unfoldable pub front_at : List TableDef → ℕ → Option ℕ → List ℕ → ℕ → Read CodecFault Batch
+unfoldable pub front_at : Tables → ℕ → Option ℕ → List ℕ → ℕ → Read CodecFault Batch
 front_at tables regions to bytes at = do
-  behind ← mark_at bytes at
-  region ← other_at regions to 1 bytes behind.1
+  format ← mark_at bytes at
+  region ← other_at regions to 1 bytes format.1
   epoch ← epoch_at bytes region.1
   count ← count_at bytes epoch.1
-  items ← candidates_at tables epoch.0 count.0 bytes count.1
+  items ← candidates_at format.0 tables epoch.0 count.0 bytes count.1
   Ok (record { region = region.0; epoch = epoch.0; items = items.0 }, items.1)
 
 -- the batch from the place to the end
-unfoldable pub body_at : List TableDef → ℕ → Option ℕ → List ℕ → ℕ → Result Batch CodecFault
+unfoldable pub body_at : Tables → ℕ → Option ℕ → List ℕ → ℕ → Result Batch CodecFault
 body_at tables regions to bytes at = do
   batch ← front_at tables regions to bytes at
   end_at batch.0 bytes batch.1
 
 -- the same, where the bytes from the place on are not too many
-unfoldable pub batch_at : List TableDef → ℕ → Option ℕ → List ℕ → ℕ → Result Batch CodecFault
+unfoldable pub batch_at : Tables → ℕ → Option ℕ → List ℕ → ℕ → Result Batch CodecFault
 batch_at tables regions to bytes at =
     if nat_le (length bytes - at) MAX_BATCH_BYTES then body_at tables regions to bytes at else Err (OverLimit (at + MAX_BATCH_BYTES) limit.BatchBytes)
 
 -- ---- packets
 
 -- a packet with a batch, whose kind was read
-unfoldable pub batch_packet_at : List TableDef → ℕ → List ℕ → ℕ → Result Packet CodecFault
+unfoldable pub batch_packet_at : Tables → ℕ → List ℕ → ℕ → Result Packet CodecFault
 batch_packet_at tables regions bytes at = do
   to ← region_at regions bytes at
   batch ← batch_at tables regions (Some to.0) bytes to.1
@@ -213,7 +234,7 @@ fetch_packet_at regions bytes at = do
   end_at (packet.Fetch from.0 to.0 epoch.0) bytes epoch.1
 
 -- the packet that the bytes spell
-unfoldable pub packet_at : List TableDef → ℕ → List ℕ → Result Packet CodecFault
+unfoldable pub packet_at : Tables → ℕ → List ℕ → Result Packet CodecFault
 packet_at tables regions bytes = do
   kind ← byte_at Short bytes 0
   if kind.0 == 1

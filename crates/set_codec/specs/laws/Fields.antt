@@ -1,15 +1,16 @@
 -- Laws: what reading fields that have a rule tells.
-use Rattle.std.proofs.Common.{◌≡◌, ℕ, ◌+◌, ◌≤◌, Bool, false, ◌&&◌, cond, eqb, ltb, leb, nat_eq, Option, Some, None, List, length, Ok, Err, refl, sym, ap, subst, ◌⊎◌, inl, inr}
+use Rattle.std.proofs.Common.{◌≡◌, ℕ, ◌+◌, ◌≤◌, Bool, false, true, ◌&&◌, cond, eqb, ltb, leb, nat_eq, Option, Some, None, is_some, List, length, Ok, Err, refl, sym, ap, subst, ◌⊎◌, inl, inr}
 use Rattle.std.specs.Bool.{Decides}
 use Rattle.std.specs.Cmp.Lexicographic.{pointwise}
 use Rattle.std.specs.Int.{w32}
-use Rattle.std.proofs.lemmas.Bool.{eqb-true, eqb-false, leb-true, le-leb}
-use Rattle.std.proofs.lemmas.Bool.Decides.{Decides-ltb, Decides-eqb, Decides-and, Decides-not, not_from_Decides, eqb_tells}
+use Rattle.std.proofs.lemmas.Bool.{both_ways, eqb-true, leb-true, le-leb}
+use Rattle.std.proofs.lemmas.Bool.Decides.{Decides-ltb, Decides-eqb, Decides-and, Decides-not, not_from_Decides}
+use Rattle.std.proofs.lemmas.Option.{none-some, same_Some}
 use Rattle.geo_base.specs.declared.limits.TheConstants.{MAX_AGE, MAX_CANDIDATES, MAX_SET_ROWS, LAST_EPOCH}
-use Rattle.geo_base.specs.Results.{◌>>=◌}
+use Rattle.geo_base.specs.Results.{Read, ◌>>=◌}
 use Rattle.geo_base.specs.laws.Orders.{text_eq_decides}
 use Rattle.geo_base.specs.laws.Results.{done, lost, ok_is, fault_is, not_done, chosen}
-use Rattle.geo_schema.specs.declared.table.TableDef.{TableDef}
+use Rattle.geo_schema.specs.Schemas.{Tables, table_numbered}
 use Rattle.row_codec.specs.Fields.{IsCut, FieldStands, ByteStands, NumberStands}
 use Rattle.row_codec.specs.inner.Fields.{field_at, byte_at, number_at}
 use Rattle.row_codec.specs.Parts.{Keeps, Breaks}
@@ -20,13 +21,15 @@ use Rattle.geo_base.specs.laws.Answers.{Tells}
 use Rattle.set_codec.specs.declared.fault.CodecFault.{CodecFault}
 use Rattle.set_codec.specs.declared.fault.CodecFault.TheVariants.{Short, BadTag, BadRow, BadStart, OverLimit, Trailing}
 use Rattle.set_codec.specs.declared.fault.Limit.TheVariants as limit
+use Rattle.set_codec.specs.declared.format.Format.{Format}
+use Rattle.set_codec.specs.declared.format.Format.TheVariants as format
 use Rattle.set_codec.specs.declared.kind.Kind.{Kind}
 use Rattle.set_codec.specs.declared.kind.Kind.TheVariants as kind
 use Rattle.set_codec.specs.Faults.{IsMarkFault, IsRegionFault, IsOtherFault, IsEpochFault, IsCountFault, IsStartFault, IsRowsFault, IsTableFault, IsKindFault, IsTrailing}
-use Rattle.set_codec.specs.Rules.{IsMark, IsRegionOf, IsOther, IsSealable, IsCandidateCount, IsStartOf, IsRowCount, IsTableOf, IsKind, IsEnd}
-use Rattle.set_codec.specs.Spelling.{mark, kind_byte}
-use Rattle.set_codec.specs.Standing.{MarkStands, RegionStands, OtherStands, EpochStands, CountStands, StartStands, RowsStand, TableStands, KindStands}
-use Rattle.set_codec.specs.inner.Reading.{mark_at, region_at, is_other, other_at, epoch_at, count_at, start_at, rows_at, table_no_at, kind_at, end_at}
+use Rattle.set_codec.specs.Rules.{IsMark, IsRegionOf, IsOther, IsSealable, IsCandidateCount, IsStartOf, IsRowCount, IsTableOf, has_kind, IsKind, IsEnd}
+use Rattle.set_codec.specs.Spelling.{mark}
+use Rattle.set_codec.specs.Standing.{Names, MarkStands, RegionStands, OtherStands, EpochStands, CountStands, StartStands, RowsStand, TableStands, KindStands}
+use Rattle.set_codec.specs.inner.Reading.{named_at, format_named, touch_in, kind_named, mark_at, region_at, is_other, other_at, epoch_at, count_at, start_at, rows_at, table_no_at, kind_at, end_at}
 
 pub decides_le : (a b : ℕ) → Decides (leb a b) (a ≤ b)
 decides_le a b = (leb-true a b, le-leb a b)
@@ -35,6 +38,89 @@ decides_le a b = (leb-true a b, le-leb a b)
 pub decided : {A : Type 0} (Sound : Type 0) (x : A × ℕ) (b : Bool) (Rule : Type 0) (fault : CodecFault) → Decides b Rule →
     Tells Sound (cond b (done x) (lost fault)) (λ y. Rule × (x ≡ y)) (λ e. ((¬ Rule) × (e ≡ fault)) ⊎ (Rule × ⊥))
 decided Sound x b Rule fault d = tells_kept Sound b Rule fault (done x) (λ y. x ≡ y) (λ _. ⊥) d.0 (not_from_Decides b d) (tells_done Sound x)
+
+-- ---- what parts name
+
+-- a search finds what keeps the rule
+record Finds {B : Type 0} (found : Option B) (Rule : B → Type 0) : Type 0 where
+  is : (x : B) → found ≡ Some x → Rule x
+  only : (x : B) → Rule x → found ≡ Some x
+
+-- a part that names something, or nothing
+names_tell : {A B : Type 0} (Sound : Type 0) (r : Read CodecFault A) (P : A × ℕ → Type 0) (F : CodecFault → Type 0) (find : A → Option B) (Rule : A → B → Type 0) (fault : CodecFault) → Tells Sound r P F → ((part : A) → Finds (find part) (Rule part)) →
+    Tells Sound (r >>= λ part. named_at (find part.0) part.1 fault) (Names P Rule) (Breaks F P (λ part. (x : B) × Rule part x) fault)
+names_tell {A} {B} Sound r P F find Rule fault t finds =
+    tells_as Sound (λ x. (part : A × ℕ) × P part × (Rule part.0 x.0 × (part.1 ≡ x.1))) (Names P Rule) (Breaks F P (λ part. (x : B) × Rule part x) fault) (Breaks F P (λ part. (x : B) × Rule part x) fault)
+    (tells_then Sound r (λ part. named_at (find part.0) part.1 fault) P F (λ part x. Rule part.0 x.0 × (part.1 ≡ x.1)) (λ part e. (¬ ((x : B) × Rule part.0 x)) × (e ≡ fault)) t (λ part _. named part.1 (find part.0) (Rule part.0) (finds part.0)))
+    (λ _ x s. (s.0.0, subst (λ (n : ℕ). P (s.0.0, n)) s.2.1 s.1, s.2.0)) (λ x s. ((s.0, x.1), s.1, (s.2, refl))) (λ _ e h. h) (λ e h. h)
+  where
+    named : (next : ℕ) (found : Option B) (Is : B → Type 0) → Finds found Is → Tells Sound (named_at found next fault) (λ x. Is x.0 × (next ≡ x.1)) (λ e. (¬ ((x : B) × Is x)) × (e ≡ fault))
+    named next (Some b) Is f = record {
+      found = λ _ x e. subst (λ (y : B × ℕ). Is y.0 × (next ≡ y.1)) (ok_is (b, next) x e) (f.is b refl, refl);
+      only = λ x s. pair (same_Some b x.0 (f.only x.0 s.0)) s.1;
+      cause = λ _ e h. not_done (b, next) e h;
+      refused = λ e h. absurd (h.0 (b, f.is b refl));
+    }
+      where
+        pair : {x : B × ℕ} → b ≡ x.0 → next ≡ x.1 → done {E = CodecFault} (b, next) ≡ done x
+        pair e h = rw (e, h) refl
+    named next None Is f = record {
+      found = λ _ x e. not_done x fault (sym e);
+      only = λ x s. absurd (none-some x.0 (f.only x.0 s.0));
+      cause = λ _ e h. (λ s. none-some s.0 (f.only s.0 s.1), sym (fault_is {A = B × ℕ} fault e h));
+      refused = λ e h. ap lost (sym h.1);
+    }
+
+-- each mark is that of one format
+mark_found : (field : List ℕ) → Finds (format_named field) (IsMark field)
+mark_found field = record { is = is; only = only }
+  where
+    is : (x : Format) → format_named field ≡ Some x → IsMark field x
+    is x e = elim (chosen (pointwise nat_eq field (mark format.Ggb1)) _ _ _ e) [
+      | inl h ↦ subst (IsMark field) (same_Some format.Ggb1 x h.1) ((text_eq_decides field (mark format.Ggb1)).0 h.0)
+      | inr h ↦ elim (chosen (pointwise nat_eq field (mark format.Ggb2)) _ _ _ h.1) [
+        | inl g ↦ subst (IsMark field) (same_Some format.Ggb2 x g.1) ((text_eq_decides field (mark format.Ggb2)).0 g.0)
+        | inr g ↦ absurd (none-some x g.1)
+      ]
+    ]
+
+    only : (x : Format) → IsMark field x → format_named field ≡ Some x
+    only format.Ggb1 e = rw e refl
+    only format.Ggb2 e = rw e refl
+
+-- each byte is that of one kind, if the format has the kind
+kind_found : (format : Format) (byte : ℕ) → Finds (kind_named format byte) (IsKind format byte)
+kind_found of byte = record { is = is; only = only of }
+  where
+    puts : (f : Format) → has_kind f kind.Put ≡ true
+    puts format.Ggb1 = refl
+    puts format.Ggb2 = refl
+
+    removes : (f : Format) → has_kind f kind.Remove ≡ true
+    removes format.Ggb1 = refl
+    removes format.Ggb2 = refl
+
+    touches : (f : Format) (x : Kind) → byte ≡ 3 → touch_in f ≡ Some x → IsKind f byte x
+    touches format.Ggb1 x h e = absurd (none-some x e)
+    touches format.Ggb2 x h e = subst (IsKind format.Ggb2 byte) (same_Some kind.Touch x e) (h, refl)
+
+    is : (x : Kind) → kind_named of byte ≡ Some x → IsKind of byte x
+    is x e = elim (chosen (eqb byte 1) _ _ _ e) [
+      | inl h ↦ subst (IsKind of byte) (same_Some kind.Put x h.1) (eqb-true byte 1 h.0, puts of)
+      | inr h ↦ elim (chosen (eqb byte 2) _ _ _ h.1) [
+        | inl g ↦ subst (IsKind of byte) (same_Some kind.Remove x g.1) (eqb-true byte 2 g.0, removes of)
+        | inr g ↦ elim (chosen (eqb byte 3) _ _ _ g.1) [
+          | inl d ↦ touches of x (eqb-true byte 3 d.0) d.1
+          | inr d ↦ absurd (none-some x d.1)
+        ]
+      ]
+    ]
+
+    only : (f : Format) (x : Kind) → IsKind f byte x → kind_named f byte ≡ Some x
+    only f kind.Put h = rw h.0 refl
+    only f kind.Remove h = rw h.0 refl
+    only format.Ggb1 kind.Touch h = absurd (both_ways false refl h.1)
+    only format.Ggb2 kind.Touch h = rw h.0 refl
 
 decides_other : (one : Option ℕ) (region : ℕ) → Decides (is_other one region) (IsOther one region)
 decides_other None region = (λ _. tt, λ _. refl)
@@ -55,9 +141,12 @@ module _ (bytes : List ℕ) where
 
   pub mark_tells : (at : ℕ) → Tells (AreBytes bytes) (mark_at bytes at) (MarkStands bytes at) (IsMarkFault bytes at)
   unfolding mark_at
-  mark_tells at =
-      tells_rule (AreBytes bytes) (field_at Short 4 bytes at) (λ x. cond (pointwise nat_eq x.0 mark) (Ok x) (Err (BadTag at))) (FieldStands 4 bytes at) (IsCut Short 4 bytes at) IsMark (BadTag at) (field_tells Short bytes at 4)
-      (λ x. decided (AreBytes bytes) x (pointwise nat_eq x.0 mark) (IsMark x.0) (BadTag at) (text_eq_decides x.0 mark))
+  mark_tells at = names_tell (AreBytes bytes) (field_at Short 4 bytes at) (FieldStands 4 bytes at) (IsCut Short 4 bytes at) format_named IsMark (BadTag at) (field_tells Short bytes at 4) mark_found
+
+  pub kind_tells : (format : Format) (at : ℕ) → Tells (AreBytes bytes) (kind_at format bytes at) (KindStands format bytes at) (IsKindFault format bytes at)
+  unfolding kind_at
+  kind_tells format at =
+      names_tell (AreBytes bytes) (byte_at Short bytes at) (ByteStands bytes at) (IsCut Short 1 bytes at) (kind_named format) (IsKind format) (BadTag at) (byte_tells Short bytes at) (kind_found format)
 
   pub region_tells : (regions at : ℕ) → Tells (AreBytes bytes) (region_at regions bytes at) (RegionStands regions bytes at) (IsRegionFault regions bytes at)
   unfolding region_at
@@ -86,54 +175,9 @@ module _ (bytes : List ℕ) where
   unfolding rows_at
   rows_tell at = number_rule at (λ n. leb 1 n && leb n MAX_SET_ROWS) IsRowCount (OverLimit at limit.Rows) (λ n. Decides-and (leb 1 n) (leb n MAX_SET_ROWS) (decides_le 1 n) (decides_le n MAX_SET_ROWS))
 
-  pub table_tells : (tables : List TableDef) (at : ℕ) → Tells (AreBytes bytes) (table_no_at tables bytes at) (TableStands tables bytes at) (IsTableFault tables bytes at)
+  pub table_tells : (tables : Tables) (at : ℕ) → Tells (AreBytes bytes) (table_no_at tables bytes at) (TableStands tables bytes at) (IsTableFault tables bytes at)
   unfolding table_no_at
-  table_tells tables at = byte_rule at (λ n. ltb n (length tables)) (IsTableOf tables) (BadRow at) (λ n. Decides-ltb n (length tables))
-
-  -- ---- kinds
-
-  kind_of : (n next at : ℕ) → Tells {A = Kind × ℕ} (AreBytes bytes) (cond (eqb n 1) (done (kind.Put, next)) (cond (eqb n 2) (done (kind.Remove, next)) (lost (BadTag at))))
-      (λ y. (n ≡ kind_byte y.0) × (next ≡ y.1)) (λ e. (¬ (IsKind n)) × (e ≡ BadTag at))
-  kind_of n next at = record {
-    found = λ fits y e. elim (chosen (eqb n 1) _ _ _ e) [
-      | inl h ↦ subst (λ (z : Kind × ℕ). (n ≡ kind_byte z.0) × (next ≡ z.1)) (ok_is (kind.Put, next) y h.1) (eqb-true n 1 h.0, refl)
-      | inr h ↦ elim (chosen (eqb n 2) _ _ _ h.1) [
-        | inl g ↦ subst (λ (z : Kind × ℕ). (n ≡ kind_byte z.0) × (next ≡ z.1)) (ok_is (kind.Remove, next) y g.1) (eqb-true n 2 g.0, refl)
-        | inr g ↦ not_done y (BadTag at) (sym g.1)
-      ]
-    ];
-    only = of_byte;
-    cause = λ fits f e. elim (chosen (eqb n 1) _ _ _ e) [
-      | inl h ↦ not_done (kind.Put, next) f h.1
-      | inr h ↦ elim (chosen (eqb n 2) _ _ _ h.1) [
-        | inl g ↦ not_done (kind.Remove, next) f g.1
-        | inr g ↦ (neither (eqb-false n 1 h.0) (eqb-false n 2 g.0), sym (fault_is {A = Kind × ℕ} (BadTag at) f g.1))
-      ]
-    ];
-    refused = λ f h. rw (other 1 (λ e. h.0 (kind.Put, e)), other 2 (λ e. h.0 (kind.Remove, e))) (ap lost (sym h.1));
-  }
-    where
-      of_byte : (y : Kind × ℕ) → (n ≡ kind_byte y.0) × (next ≡ y.1) → cond (eqb n 1) (done (kind.Put, next)) (cond (eqb n 2) (done (kind.Remove, next)) (lost (BadTag at))) ≡ done y
-      of_byte (kind.Put, behind) h = rw h.0 (ap (λ (m : ℕ). done (kind.Put, m)) h.1)
-      of_byte (kind.Remove, behind) h = rw h.0 (ap (λ (m : ℕ). done (kind.Remove, m)) h.1)
-
-      neither : ¬ (n ≡ 1) → ¬ (n ≡ 2) → ¬ (IsKind n)
-      neither not_put not_remove (kind.Put, e) = not_put e
-      neither not_put not_remove (kind.Remove, e) = not_remove e
-
-      other : (k : ℕ) → ¬ (n ≡ k) → eqb n k ≡ false
-      other k h = elim (eqb_tells n k) [ inl e ↦ absurd (h e.1) | inr e ↦ e.0 ]
-
-  pub kind_tells : (at : ℕ) → Tells (AreBytes bytes) (kind_at bytes at) (KindStands bytes at) (IsKindFault bytes at)
-  unfolding kind_at
-  kind_tells at =
-      tells_as (AreBytes bytes) (λ y. (x : ℕ × ℕ) × ByteStands bytes at x × ((x.0 ≡ kind_byte y.0) × (x.1 ≡ y.1))) (KindStands bytes at) (IsKindFault bytes at) (IsKindFault bytes at)
-      (tells_then (AreBytes bytes) (byte_at Short bytes at) (λ x. cond (eqb x.0 1) (Ok (kind.Put, x.1)) (cond (eqb x.0 2) (Ok (kind.Remove, x.1)) (Err (BadTag at)))) (ByteStands bytes at) (IsCut Short 1 bytes at)
-      (λ x y. (x.0 ≡ kind_byte y.0) × (x.1 ≡ y.1)) (λ x e. (¬ (IsKind x.0)) × (e ≡ BadTag at)) (byte_tells Short bytes at) (λ x _. kind_of x.0 x.1 at))
-      (λ _ y s. there y s.0.0 s.0.1 s.1 s.2) (λ y s. ((kind_byte y.0, y.1), s, (refl, refl))) (λ _ e h. h) (λ e h. h)
-    where
-      there : (y : Kind × ℕ) (n next : ℕ) → ByteStands bytes at (n, next) → (n ≡ kind_byte y.0) × (next ≡ y.1) → KindStands bytes at y
-      there y n next stands h = subst (λ (m : ℕ). ByteStands bytes at (m, y.1)) h.0 (subst (λ (m : ℕ). ByteStands bytes at (n, m)) h.1 stands)
+  table_tells tables at = byte_rule at (λ n. is_some (table_numbered tables n)) (IsTableOf tables) (BadRow at) (λ n. (λ h. h, λ h. h))
 
   -- ---- the end
 

@@ -7,7 +7,7 @@ use Rattle.std.proofs.lemmas.List.Folds.{list_any_at, list_any_none}
 use Rattle.std.proofs.lemmas.List.Sums.{passes_at_first, position_or_len_is}
 use Rattle.geo_schema.specs.declared.table.TableDef.{TableDef}
 use Rattle.geo_schema.specs.Rows.{is_in}
-use Rattle.geo_schema.specs.Tables.{IsTable}
+use Rattle.geo_schema.specs.Tables.{TakesRows}
 use Rattle.geo_schema.specs.laws.Places.{none_passes}
 
 abbrev pub place_in : List ℕ → ℕ → Option ℕ
@@ -30,7 +30,7 @@ pub not_in_key : (key : List ℕ) (place : ℕ) → place_in key place ≡ None 
 not_in_key key place e = list_any_none (λ p. nat_eq p place) key (λ k d lt. none_passes (λ p. nat_eq p place) key k d e lt)
 
 -- each place of a table's key is found where it stands
-pub place_of : (table : TableDef) (j : ℕ) → IsTable table → j < length table.key → place_in table.key (get_or table.key j 0) ≡ Some j
+pub place_of : (table : TableDef) (j : ℕ) → TakesRows table → j < length table.key → place_in table.key (get_or table.key j 0) ≡ Some j
 place_of table j h within =
     let key = table.key in
     let place = get_or key j 0 in

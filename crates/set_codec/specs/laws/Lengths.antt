@@ -1,5 +1,5 @@
 -- Laws: how long spellings are.
-use Rattle.std.proofs.Common.{◌≡◌, ℕ, suc, ◌+◌, ◌-◌, ◌<◌, ◌≤◌, Bool, true, false, List, [], ◌∷◌, if◌then◌else◌, length, get_or, map, min, nat_eq, sum_by, refl, sym, ap, subst, ◌∙◌, arith}
+use Rattle.std.proofs.Common.{◌≡◌, ℕ, suc, ◌+◌, ◌-◌, ◌<◌, ◌≤◌, Bool, true, false, List, [], ◌∷◌, ◌++◌, if◌then◌else◌, length, get_or, map, min, nat_eq, sum_by, refl, sym, ap, subst, ◌∙◌, arith}
 use Rattle.std.specs.List.{All, AllByRecursion}
 use Rattle.std.proofs.lemmas.Bool.Decides.{nat_tests}
 use Rattle.std.proofs.lemmas.List.{length-append}
@@ -11,17 +11,20 @@ use Rattle.geo_base.specs.declared.cell.Cell.TheVariants as cell
 use Rattle.geo_schema.specs.declared.table.TableDef.{TableDef}
 use Rattle.geo_schema.specs.Repeats.{AreApart}
 use Rattle.geo_schema.specs.Rows.{is_in, key_cells}
-use Rattle.geo_schema.specs.Schemas.{IsSchema, table_at, no_table}
-use Rattle.geo_schema.specs.Tables.{IsTable}
+use Rattle.geo_schema.specs.Schemas.{Tables, IsSchema, table_at}
+use Rattle.geo_schema.specs.Tables.{TakesRows}
+use Rattle.geo_schema.specs.laws.Numbers.{takes_rows}
 use Rattle.row_codec.specs.Spelling.{cell_spelling, cells_spelling}
 use Rattle.write_set.specs.declared.batch.Batch.{Batch}
 use Rattle.write_set.specs.declared.candidate.Candidate.{Candidate}
-use Rattle.write_set.specs.declared.change.Change.TheVariants.{Put, Remove}
+use Rattle.write_set.specs.declared.change.Change.TheVariants.{Put, Remove, Touch}
 use Rattle.write_set.specs.Sets.{ChangeOfRow}
 use Rattle.write_set.specs.Sizes.{cell_size, change_size, candidate_size, batch_size}
+use Rattle.set_codec.specs.declared.format.Format.{Format}
+use Rattle.set_codec.specs.declared.format.Format.TheVariants as format
 use Rattle.set_codec.specs.Fits.{FitsTable}
 use Rattle.set_codec.specs.Sizes.{CountsBytes, SizeIsLength, SetSizeIsLength}
-use Rattle.set_codec.specs.Spelling.{other_cells, change_spelling, changes_spelling, candidate_spelling, candidates_spelling, batch_spelling}
+use Rattle.set_codec.specs.Spelling.{other_cells, number_spelling, change_spelling, changes_spelling, candidate_spelling, candidates_spelling, mark, batch_spelling}
 
 cell_len : (c : Cell) → length (cell_spelling c) ≡ cell_size c
 cell_len cell.Null = refl
@@ -104,17 +107,18 @@ key_places count (p ∷ ps) within apart = (
   ),
 )
 
-key_of : (table : TableDef) → IsTable table → AreKeyPlaces (length table.columns) table.key
+key_of : (table : TableDef) → TakesRows table → AreKeyPlaces (length table.columns) table.key
 key_of table rules = key_places (length table.columns) table.key (recursion_from_All (λ p. p < length table.columns) table.key rules.key.within) rules.key.apart
 
 -- ---- a change
 
-change_len : (tables : List TableDef) (c : ChangeOfRow) → IsSchema tables → FitsTable tables c → length (change_spelling tables c) ≡ change_size c
+change_len : (tables : Tables) (c : ChangeOfRow) → IsSchema tables → FitsTable tables c → length (change_spelling tables c) ≡ change_size c
 unfolding change_spelling key_cells
-change_len tables (row, Remove) schema fits = omega (arith, cells_len row.key)
+change_len tables (row, Remove) schema fits = omega (arith, length-append (cells_spelling row.key) [], cells_len row.key)
+change_len tables (row, Touch) schema fits = omega (arith, length-append (cells_spelling row.key) [], cells_len row.key)
 change_len tables (row, Put image) schema fits =
     let table = table_at tables row.table in
-    let rules : IsTable table = schema.rules row.table no_table fits.table in
+    let rules : TakesRows table = takes_rows tables row.table schema fits.table in
     let len = fits.image.0.count in
     let places = subst (λ (n : ℕ). AreKeyPlaces n table.key) (sym len) (key_of table rules) in
     let all = row_len table.key image places in
@@ -123,7 +127,7 @@ change_len tables (row, Put image) schema fits =
 
 -- ---- lists
 
-changes_len : (tables : List TableDef) (cs : List ChangeOfRow) → IsSchema tables → AllByRecursion (FitsTable tables) cs → length (changes_spelling tables cs) ≡ sum_by change_size cs
+changes_len : (tables : Tables) (cs : List ChangeOfRow) → IsSchema tables → AllByRecursion (FitsTable tables) cs → length (changes_spelling tables cs) ≡ sum_by change_size cs
 changes_len tables [] schema fits = refl
 changes_len tables (c ∷ cs) schema fits =
     omega (arith, length-append (change_spelling tables c) (changes_spelling tables cs), change_len tables c schema fits.0, changes_len tables cs schema fits.1, sum_more change_size c cs)
@@ -131,21 +135,31 @@ changes_len tables (c ∷ cs) schema fits =
 pub set_size_is_length : SetSizeIsLength
 set_size_is_length tables changes schema fits = changes_len tables changes schema (recursion_from_All (FitsTable tables) changes fits)
 
-candidate_len : (tables : List TableDef) (c : Candidate) → IsSchema tables → All (FitsTable tables) c.set → length (candidate_spelling tables c) ≡ candidate_size c
+candidate_len : (tables : Tables) (c : Candidate) → IsSchema tables → All (FitsTable tables) c.set → length (candidate_spelling tables c) ≡ candidate_size c
 unfolding candidate_spelling
 candidate_len tables c schema fits =
     omega (arith, set_size_is_length tables c.set schema fits)
 
-candidates_len : (tables : List TableDef) (cs : List Candidate) → IsSchema tables → AllByRecursion (λ c. All (FitsTable tables) c.set) cs → length (candidates_spelling tables cs) ≡ sum_by candidate_size cs
+candidates_len : (tables : Tables) (cs : List Candidate) → IsSchema tables → AllByRecursion (λ c. All (FitsTable tables) c.set) cs → length (candidates_spelling tables cs) ≡ sum_by candidate_size cs
 candidates_len tables [] schema fits = refl
 candidates_len tables (c ∷ cs) schema fits =
     omega (arith, length-append (candidate_spelling tables c) (candidates_spelling tables cs), candidate_len tables c schema fits.0, candidates_len tables cs schema fits.1, sum_more candidate_size c cs)
 
-pub size_is_length : SizeIsLength
+pub mark_len : (format : Format) → length (mark format) ≡ 4
+mark_len format.Ggb1 = refl
+mark_len format.Ggb2 = refl
+
+-- a batch has as many bytes in one format as in the other
+pub batch_len : (format : Format) (tables : Tables) (batch : Batch) → length (batch_spelling format tables batch) ≡ 13 + length (candidates_spelling tables batch.items)
 unfolding batch_spelling
-size_is_length tables batch schema fits =
-    omega (arith, candidates_len tables batch.items schema (recursion_from_All (λ c. All (FitsTable tables) c.set) batch.items fits))
+batch_len format tables batch =
+    let behind = number_spelling batch.epoch ++ (number_spelling (length batch.items) ++ candidates_spelling tables batch.items) in
+    omega (arith, length-append (mark format) (batch.region ∷ behind), mark_len format)
+
+pub size_is_length : SizeIsLength
+size_is_length format tables batch schema fits =
+    omega (arith, batch_len format tables batch, candidates_len tables batch.items schema (recursion_from_All (λ c. All (FitsTable tables) c.set) batch.items fits))
 
 -- so a size that is counted is that of the spelling
 pub counts_bytes : (greatest : ℕ) (batch : Batch) (size : ℕ) → size ≡ min (batch_size batch.items) greatest → CountsBytes greatest batch size
-counts_bytes greatest batch size e tables schema fits = e ∙ ap (λ (n : ℕ). min n greatest) (sym (size_is_length tables batch schema fits))
+counts_bytes greatest batch size e tables schema fits = e ∙ ap (λ (n : ℕ). min n greatest) (sym (size_is_length format.Ggb2 tables batch schema fits))

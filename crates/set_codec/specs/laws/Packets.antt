@@ -5,8 +5,7 @@ use Rattle.std.proofs.lemmas.Bool.{eqb-true, eqb-false, ne_eqb}
 use Rattle.std.proofs.lemmas.Nat.{from_be_bytes-to_be_bytes_4}
 use Rattle.geo_base.specs.declared.limits.TheConstants.{MAX_REGIONS, LAST_EPOCH}
 use Rattle.geo_base.specs.laws.Results.{lost, fault_is, not_done, chosen}
-use Rattle.geo_schema.specs.declared.table.TableDef.{TableDef}
-use Rattle.geo_schema.specs.Schemas.{IsSchema}
+use Rattle.geo_schema.specs.Schemas.{Tables, IsSchema}
 use Rattle.row_codec.specs.Fields.{IsCut, ByteStands}
 use Rattle.row_codec.specs.inner.Fields.{byte_at}
 use Rattle.row_codec.specs.Parts.{FirstOrLater}
@@ -24,13 +23,13 @@ use Rattle.set_codec.specs.Alone.{SpellsPacket, OnePacketOrFault, NoPacketBegins
 use Rattle.set_codec.specs.Faults.{IsRegionFault, IsOtherFault, IsEpochFault, IsTrailing, IsBatchFaultAt, IsFetchFault, IsPacketFaultAt, IsPacketFault}
 use Rattle.set_codec.specs.Fits.{FitsPacket}
 use Rattle.set_codec.specs.Rules.{IsEnd, IsPacketKind}
-use Rattle.set_codec.specs.Spelling.{number_spelling, batch_spelling, packet_spelling}
+use Rattle.set_codec.specs.Spelling.{number_spelling, packet_spelling}
 use Rattle.set_codec.specs.Standing.{RegionStands, OtherStands, EpochStands}
 use Rattle.set_codec.specs.inner.Reading.{region_at, other_at, epoch_at, end_at, batch_at, batch_packet_at, fetch_packet_at, packet_at}
 use Rattle.set_codec.specs.laws.Fields.{region_tells, other_tells, epoch_tells, end_tells}
 use Rattle.set_codec.specs.laws.Batches.{LastStands, batch_tells, last_lawful, lawful_last, batch_alone}
 
-module _ (bytes : List ℕ) (tables : List TableDef) (schema : IsSchema tables) (regions : ℕ) where
+module _ (bytes : List ℕ) (tables : Tables) (schema : IsSchema tables) (regions : ℕ) where
   -- ---- packets with a batch
 
   abbrev BatchStandsIn : ℕ → Packet → Type 0
@@ -138,13 +137,13 @@ module _ (bytes : List ℕ) (tables : List TableDef) (schema : IsSchema tables) 
       (sym (rest_is (2 ∷ from.0 ∷ to.0 ∷ number) bytes 0 epoch.1 all end), λ within. (from_there.1, to_there.0.1, to_there.1, epoch_there.1))
 
 -- what the bytes spell stands there
-pub spelled_parts : (tables : List TableDef) (regions : ℕ) (bytes : List ℕ) (p : Packet) → (schema : IsSchema tables) → SpellsPacket tables regions bytes p → PartsStand bytes tables schema regions p
+pub spelled_parts : (tables : Tables) (regions : ℕ) (bytes : List ℕ) (p : Packet) → (schema : IsSchema tables) → SpellsPacket tables regions bytes p → PartsStand bytes tables schema regions p
 spelled_parts tables regions bytes (packet.Batch to bs) schema (fits, e) =
     let b = fits.1.0 in
     let n = length bytes in
     let all : StandsAt (1 ∷ to ∷ bs) bytes 0 n = subst (λ (t : List ℕ). StandsAt (1 ∷ to ∷ bs) t 0 (length t)) e (whole_stands (1 ∷ to ∷ bs)) in
     let behind_kind = rest_stands (1 ∷ []) (to ∷ bs) bytes 0 n all in
-    let behind_to : StandsAt (batch_spelling tables b) bytes 2 n = subst (λ (s : List ℕ). StandsAt s bytes 2 n) fits.1.3 (rest_stands (to ∷ []) bs bytes 1 n behind_kind) in
+    let behind_to = rest_stands (to ∷ []) bs bytes 1 n behind_kind in
     let rest : drop 2 bytes ≡ bs = ap (drop 2) (sym e) in (
       (1, 1),
       front_stands (1 ∷ []) (to ∷ bs) bytes 0 n all,
@@ -153,7 +152,7 @@ spelled_parts tables regions bytes (packet.Batch to bs) schema (fits, e) =
         (
           (to, 2),
           (front_stands (to ∷ []) bs bytes 1 n behind_kind, fits.0),
-          (b, lawful_last bytes tables schema regions (Some to) 2 n b fits.1.1 fits.1.2 behind_to (omega arith), ap (packet.Batch to) rest),
+          (b, lawful_last bytes tables schema regions (Some to) 2 n b bs fits.1.1 fits.1.2 fits.1.3 behind_to (omega arith), ap (packet.Batch to) rest),
         ),
       ),
     )
@@ -196,11 +195,8 @@ pub packet_alone : NoPacketBeginsAnother
 packet_alone tables regions (packet.Batch to_a bs_a) (packet.Batch to_b bs_b) after_a after_b schema fits_a fits_b e =
     let to : to_a ≡ to_b = ap (λ (t : List ℕ). head_of t 1) e in
     let rest : bs_a ++ after_a ≡ bs_b ++ after_b = ap (drop 2) e in
-    let spelled : batch_spelling tables fits_a.1.0 ++ after_a ≡ batch_spelling tables fits_b.1.0 ++ after_b =
-    ap (λ (t : List ℕ). t ++ after_a) (sym fits_a.1.3) ∙ rest ∙ ap (λ (t : List ℕ). t ++ after_b) fits_b.1.3 in
-    let same = batch_alone tables regions fits_a.1.0 fits_b.1.0 after_a after_b schema fits_a.1.1 fits_b.1.1 spelled in
-    let bs : bs_a ≡ bs_b = fits_a.1.3 ∙ ap (batch_spelling tables) same.0 ∙ sym fits_b.1.3 in
-    (ap (λ (t : ℕ). packet.Batch t bs_a) to ∙ ap (packet.Batch to_b) bs, same.1)
+    let same = batch_alone tables regions fits_a.1.0 fits_b.1.0 bs_a bs_b after_a after_b schema (fits_a.1.1, fits_a.1.3) (fits_b.1.1, fits_b.1.3) rest in
+    (ap (λ (t : ℕ). packet.Batch t bs_a) to ∙ ap (packet.Batch to_b) same.1, same.2)
 packet_alone tables regions (packet.Batch to_a bs_a) (packet.Fetch from_b to_b epoch_b) after_a after_b schema fits_a fits_b e =
     let kinds : ◌≡◌ {A = ℕ} 1 2 = ap (λ (t : List ℕ). head_of t 0) e in
     absurd (omega (arith, kinds))

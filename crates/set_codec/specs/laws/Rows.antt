@@ -13,10 +13,11 @@ use Rattle.geo_schema.specs.declared.column.ColumnDef.{ColumnDef}
 use Rattle.geo_schema.specs.declared.fault.CellFault.{CellFault}
 use Rattle.geo_schema.specs.declared.table.TableDef.{TableDef}
 use Rattle.geo_schema.specs.Rows.{is_in, Suits, IsCause, IsRow, key_cells}
-use Rattle.geo_schema.specs.Tables.{IsTable}
+use Rattle.geo_schema.specs.Tables.{TakesRows, no_column}
 use Rattle.geo_schema.specs.inner.Rows.{cell_fault}
 use Rattle.geo_schema.specs.laws.Fits.{suits, found_cause}
 pub use Rattle.geo_schema.specs.laws.Fits.{suits_faultless}
+pub use Rattle.geo_schema.specs.laws.Numbers.{table_is}
 use Rattle.row_codec.specs.declared.fault.CellReadFault.{CellReadFault}
 use Rattle.row_codec.specs.Places.{AreBytes, StandsAt}
 use Rattle.row_codec.specs.Spelling.{cell_spelling, cells_spelling, IsCell, AreCells, CellStands}
@@ -31,17 +32,17 @@ use Rattle.set_codec.specs.declared.fault.CodecFault.TheVariants.{BadRow}
 use Rattle.set_codec.specs.CellFaults.{fault_of}
 use Rattle.set_codec.specs.Faults.{IsCellFault, IsTakenFault, IsKeyFault, IsRowFault}
 use Rattle.set_codec.specs.Fits.{AreTaken, FitsKey}
-use Rattle.set_codec.specs.Rules.{no_column, IsTaken}
+use Rattle.set_codec.specs.Rules.{IsTaken}
 use Rattle.set_codec.specs.Spelling.{other_cells}
 use Rattle.set_codec.specs.Standing.{TakenStands, HasKey, KeyStands, RowStands}
 use Rattle.set_codec.specs.inner.Reading.{lifted, taken_at, key_at, row_cell_at, next_cell_at, row_at}
 use Rattle.set_codec.specs.laws.Fields.{decided}
 use Rattle.set_codec.specs.laws.KeyPlaces.{place_in, found, in_key, not_in_key, place_of}
 
-pub columns_are_few : (table : TableDef) → IsTable table → length table.columns ≤ MAX_COLUMNS
+pub columns_are_few : (table : TableDef) → TakesRows table → length table.columns ≤ MAX_COLUMNS
 columns_are_few table rules = rules.few
 
-pub columns_are_some : (table : TableDef) → IsTable table → 1 ≤ length table.columns
+pub columns_are_some : (table : TableDef) → TakesRows table → 1 ≤ length table.columns
 columns_are_some table rules = rules.some
 
 -- ---- one cell
@@ -252,7 +253,7 @@ row_taken table cells row = all_taken [] table (λ p. p) 0 cells (λ k lt.
     (row.suits k (get_or table.columns k no_column) (get_or cells k cell.Null) (slice_get-get_or table.columns k no_column (omega (arith, lt, row.count))) (slice_get-get_or cells k cell.Null lt)))
 
 -- a row that has the key's cells at the key's places has that key
-pub key_is : (table : TableDef) (key image : List Cell) → IsTable table → length key ≡ length table.key → length image ≡ length table.columns → HasKey table key 0 image → key_cells table image ≡ key
+pub key_is : (table : TableDef) (key image : List Cell) → TakesRows table → length key ≡ length table.key → length image ≡ length table.columns → HasKey table key 0 image → key_cells table image ≡ key
 unfolding key_cells
 key_is table key image rules key_len count same =
     let read : ℕ → Cell = λ p. get_or image p cell.Null in

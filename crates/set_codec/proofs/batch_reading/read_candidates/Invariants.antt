@@ -6,5 +6,5 @@ use Rattle.set_codec.proofs.batch_reading.read_candidates.Given as goal
 abbrev pub invariant-loop : goal.invariant-loop
 invariant-loop l = record {
   within : l.next ≤ length l.bytes;
-  so_far : ComesTo l.items.items (candidates_at l.schema l.epoch l.count l.bytes l.fn.at) (candidates_at l.schema l.epoch (l.count - l.counter) l.bytes l.next);
+  so_far : ComesTo l.items.items (candidates_at l.format l.schema l.epoch l.count l.bytes l.fn.at) (candidates_at l.format l.schema l.epoch (l.count - l.counter) l.bytes l.next);
 }

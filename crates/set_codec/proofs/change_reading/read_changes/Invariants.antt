@@ -6,5 +6,5 @@ use Rattle.set_codec.proofs.change_reading.read_changes.Given as goal
 abbrev pub invariant-loop : goal.invariant-loop
 invariant-loop l = record {
   within : l.next ≤ length l.bytes;
-  so_far : ComesTo l.changes.items (changes_at l.schema l.count l.bytes l.fn.at) (things_at (change_at l.schema) row_behind (l.count - l.counter) (last_row l.changes.items) l.bytes l.next);
+  so_far : ComesTo l.changes.items (changes_at l.format l.schema l.count l.bytes l.fn.at) (things_at (change_at l.format l.schema) row_behind (l.count - l.counter) (last_row l.changes.items) l.bytes l.next);
 }
