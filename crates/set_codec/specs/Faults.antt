@@ -19,7 +19,8 @@ use Rattle.set_codec.specs.declared.format.Format.{Format}
 use Rattle.set_codec.specs.declared.kind.Kind.{Kind}
 use Rattle.set_codec.specs.declared.kind.Kind.TheVariants as kind
 use Rattle.set_codec.specs.CellFaults.{fault_of}
-use Rattle.set_codec.specs.Rules.{IsMark, IsRegionOf, IsOther, IsSealable, IsCandidateCount, IsBatchSize, IsEnd, IsStartOf, IsRowCount, IsSetSize, IsTableOf, IsKind, IsAfter, IsTaken, IsPacketKind}
+use Rattle.set_codec.specs.Rules.{IsMark, IsRegionOf, IsOther, IsSealable, IsBatchSize, IsEnd, IsTableOf, IsKind, IsAfter, IsTaken, IsPacketKind}
+use Rattle.write_set.specs.Bounds.{IsCandidateCount, IsStartOf, IsRowCount, IsSetSize}
 use Rattle.set_codec.specs.Spelling.{changes_spelling}
 use Rattle.set_codec.specs.Standing.{MarkStands, RegionStands, OtherStands, EpochStands, CountStands, StartStands, RowsStand, TableStands, KindStands, KeyStands, RowStands, row_before, ChangesStand, CandidatesStand, BatchStands}
 

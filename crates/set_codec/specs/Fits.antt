@@ -16,7 +16,8 @@ use Rattle.set_codec.specs.declared.format.Format.{Format}
 use Rattle.set_codec.specs.declared.format.Format.TheVariants as format
 use Rattle.set_codec.specs.declared.packet.Packet.{Packet}
 use Rattle.set_codec.specs.declared.packet.Packet.TheVariants as packet
-use Rattle.set_codec.specs.Rules.{IsRegionOf, IsOther, IsSealable, IsSetSize, IsBatchSize, IsTableOf, has_kind, IsTaken}
+use Rattle.set_codec.specs.Rules.{IsRegionOf, IsOther, IsSealable, IsBatchSize, IsTableOf, has_kind, IsTaken}
+use Rattle.write_set.specs.Bounds.{IsSetSize}
 use Rattle.set_codec.specs.Spelling.{kind_of, changes_spelling, batch_spelling}
 
 -- each of the cells is taken by the column at its place, where the first one's place is the i-th

@@ -1,7 +1,7 @@
--- The rules of the format, each stated once. What stands keeps them, and a fault is that one is broken.
+-- The rules of the format, each stated once; those of starts and of counts are in write_set: Bounds. What stands keeps them, and a fault is that one is broken.
 use Rattle.std.specs.Prelude.{◌≡◌, ◌⊎◌, ℕ, ◌+◌, ◌<◌, ◌≤◌, Bool, true, false, Option, Some, None, List, length, slice_index_or}
 use Rattle.std.specs.declared.cmp.Ordering.TheVariants as order
-use Rattle.geo_base.specs.declared.limits.TheConstants.{MAX_AGE, MAX_CANDIDATES, MAX_BATCH_BYTES, MAX_SET_ROWS, MAX_SET_BYTES, LAST_EPOCH}
+use Rattle.geo_base.specs.declared.limits.TheConstants.{MAX_BATCH_BYTES, LAST_EPOCH}
 use Rattle.geo_base.specs.declared.cell.Cell.{Cell}
 use Rattle.geo_base.specs.declared.row_id.RowId.{RowId}
 use Rattle.geo_base.specs.Order.{row_cmp}
@@ -34,10 +34,6 @@ IsOther (Some to) region = ¬ (region ≡ to)
 abbrev pub IsSealable : ℕ → Type 0
 IsSealable epoch = (1 ≤ epoch) × (epoch < LAST_EPOCH)
 
--- a batch has no more candidates than a region seals in an epoch
-abbrev pub IsCandidateCount : ℕ → Type 0
-IsCandidateCount count = count ≤ MAX_CANDIDATES
-
 -- a batch has no more bytes than the limit
 abbrev pub IsBatchSize : ℕ → Type 0
 IsBatchSize bytes = bytes ≤ MAX_BATCH_BYTES
@@ -49,20 +45,6 @@ IsPacketKind kind = (kind ≡ 1) ⊎ (kind ≡ 2)
 -- nothing is behind the end
 abbrev pub IsEnd : List ℕ → ℕ → Type 0
 IsEnd bytes at = length bytes ≤ at
-
--- ---- candidates
-
--- a candidate of the epoch starts before it, and not too long before it
-abbrev pub IsStartOf : ℕ → ℕ → Type 0
-IsStartOf epoch start = (start < epoch) × (epoch ≤ start + MAX_AGE)
-
--- a candidate has a row, and no more than the limit
-abbrev pub IsRowCount : ℕ → Type 0
-IsRowCount rows = (1 ≤ rows) × (rows ≤ MAX_SET_ROWS)
-
--- a candidate's changes have no more bytes than the limit
-abbrev pub IsSetSize : ℕ → Type 0
-IsSetSize bytes = bytes ≤ MAX_SET_BYTES
 
 -- ---- changes
 

@@ -18,7 +18,8 @@ use Rattle.write_set.specs.Sets.{ChangeOfRow}
 use Rattle.set_codec.specs.declared.format.Format.{Format}
 use Rattle.set_codec.specs.declared.kind.Kind.{Kind}
 use Rattle.set_codec.specs.Fits.{AreTaken, FitsTable, FitsTables, HasCells, HaveCells, HasChange, HasChanges}
-use Rattle.set_codec.specs.Rules.{IsMark, IsRegionOf, IsOther, IsSealable, IsCandidateCount, IsStartOf, IsRowCount, IsTableOf, IsKind, IsAfter, IsTaken}
+use Rattle.set_codec.specs.Rules.{IsMark, IsRegionOf, IsOther, IsSealable, IsTableOf, IsKind, IsAfter, IsTaken}
+use Rattle.write_set.specs.Bounds.{IsCandidateCount, IsStartOf, IsRowCount}
 use Rattle.set_codec.specs.Spelling.{other_cells, changes_spelling, candidates_spelling, batch_spelling}
 
 -- ---- fields

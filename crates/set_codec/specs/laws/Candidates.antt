@@ -21,7 +21,7 @@ use Rattle.set_codec.specs.declared.fault.CodecFault.TheVariants.{OverLimit}
 use Rattle.set_codec.specs.declared.fault.Limit.TheVariants as limit
 use Rattle.set_codec.specs.Faults.{IsStartFault, IsRowsFault, IsChangesFault, IsCandidateFault, IsCandidatesFault}
 use Rattle.set_codec.specs.Fits.{FitsTable, FitsTables, HasCells, HaveCells, HasChange, HasChanges}
-use Rattle.set_codec.specs.Rules.{IsSetSize}
+use Rattle.write_set.specs.Bounds.{IsSetSize}
 use Rattle.set_codec.specs.Spelling.{number_spelling, changes_spelling, candidate_spelling, candidates_spelling}
 use Rattle.set_codec.specs.Standing.{StartStands, RowsStand, ChangesStand, CandidatesStand}
 use Rattle.set_codec.specs.inner.Reading.{start_at, rows_at, changes_at, candidate_at, candidates_at}
