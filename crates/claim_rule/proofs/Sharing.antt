@@ -9,7 +9,7 @@ use Rattle.atomic_table.proofs.Lists.{at_set, set_here}
 use Rattle.claim_rule.specs.declared.view.Draws.{Draws}
 use Rattle.claim_rule.specs.declared.view.ClaimView.{ClaimView}
 use Rattle.claim_rule.specs.Plan.{Pieces, piece_of, word_on, best}
-use Rattle.claim_rule.specs.Views.{times, no_draws, fresh, spent_view, shares_kept, shares_given, views_joined}
+use Rattle.claim_rule.specs.Views.{times, no_draws, unused_view, spent_view, shares_kept, shares_given, views_joined}
 use Rattle.claim_rule.specs.Rule.{once_below, IsFinished, IsPlanned, AreLate, Fits, AreDrawn, IsRuled}
 use Rattle.claim_rule.proofs.Sums.{each_at, sum_joined, sum_split}
 use Rattle.claim_rule.specs.laws.Times.{times-append}
@@ -31,7 +31,7 @@ both_late n shares more late later are too = record {
 }
 
 -- a view that has done nothing
-fresh_fits : (plan : Pieces) (done shares : ℕ) (flag : Bool) → 0 < shares → (flag ≡ true → done ≡ length plan) → Fits plan done (fresh plan shares flag)
+fresh_fits : (plan : Pieces) (done shares : ℕ) (flag : Bool) → 0 < shares → (flag ≡ true → done ≡ length plan) → Fits plan done (unused_view plan shares flag)
 fresh_fits plan done shares flag some_share stable = record {
   opened = refl;
   same = λ _. refl;
@@ -39,7 +39,7 @@ fresh_fits plan done shares flag some_share stable = record {
   joined = All-nil (λ p. p ≡ plan);
   drawn = λ x. omega arith;
   made = λ x f. let has : 0 < 0 = f.drawn in absurd (omega arith);
-  planned = All-nil (IsPlanned plan (fresh plan shares flag));
+  planned = All-nil (IsPlanned plan (unused_view plan shares flag));
   looked = All-nil (λ seen. seen ≤ done);
   stable = stable;
   judging = λ _. refl;
@@ -89,7 +89,7 @@ module _ (rows : ℕ) (plan : Pieces) (claimed done judged : ℕ) (headers : Lis
               late_claiming = fewer_late (length plan) v.shares (v.shares - part) v.claiming.late mine.late_claiming (omega arith);
               late_judging = fewer_late (length plan) v.shares (v.shares - part) v.judging.late mine.late_judging (omega arith);
             } r.fits)
-            (subst (λ (p : Pieces). Fits plan done (fresh p part v.stable)) (sym (mine.same some_share)) (fresh_fits plan done part v.stable some_part mine.stable));
+            (subst (λ (p : Pieces). Fits plan done (unused_view p part v.stable)) (sym (mine.same some_share)) (fresh_fits plan done part v.stable some_part mine.stable));
         claiming = drawn_split claimed (length plan) (λ u. u.claiming) views r.claiming id v left right at refl refl refl;
         judging = drawn_split judged (length plan) (λ u. u.judging) views r.judging id v left right at refl refl refl;
         finished =
@@ -192,16 +192,16 @@ module _ (rows : ℕ) (plan : Pieces) (claimed done judged : ℕ) (headers : Lis
       }
 
 -- the table with its first view
-pub opens : (rows : ℕ) (plan : Pieces) (shares : ℕ) → length plan < 2 ^ 32 → 0 < shares → shares ≤ 8 → IsRuled rows plan 0 0 0 (replicate rows 0) (fresh plan shares false ∷ [])
+pub opens : (rows : ℕ) (plan : Pieces) (shares : ℕ) → length plan < 2 ^ 32 → 0 < shares → shares ≤ 8 → IsRuled rows plan 0 0 0 (replicate rows 0) (unused_view plan shares false ∷ [])
 opens rows plan shares few some_share most =
-    let drawn : (draws : ClaimView → Draws) → draws (fresh plan shares false) ≡ no_draws → AreDrawn 0 (length plan) draws (fresh plan shares false ∷ []) =
-    (λ (draws : ClaimView → Draws) (none : draws (fresh plan shares false) ≡ no_draws). record {
+    let drawn : (draws : ClaimView → Draws) → draws (unused_view plan shares false) ≡ no_draws → AreDrawn 0 (length plan) draws (unused_view plan shares false ∷ []) =
+    (λ (draws : ClaimView → Draws) (none : draws (unused_view plan shares false) ≡ no_draws). record {
       once = λ x. ap (λ (d : Draws). 0 + times x d.numbers) none ∙ none_below x;
       drawn = ap (λ (d : Draws). 0 + length d.numbers) none ∙ (omega arith);
       counted = ap (λ (d : Draws). 0 + (length d.numbers + length d.late)) none;
     }) in
     record {
-      fits = All-cons (Fits plan 0) (fresh plan shares false) [] (fresh_fits plan 0 shares false some_share (λ on. absurd (true≢false (sym on)))) (All-nil (Fits plan 0));
+      fits = All-cons (Fits plan 0) (unused_view plan shares false) [] (fresh_fits plan 0 shares false some_share (λ on. absurd (true≢false (sym on)))) (All-nil (Fits plan 0));
       claiming = drawn (λ v. v.claiming) refl;
       judging = drawn (λ v. v.judging) refl;
       finished = refl;

@@ -10,7 +10,7 @@ use Rattle.atomic_table.specs.Table.{step, keeps, Allows, Splits, Joins, opening
 use Rattle.atomic_table.proofs.Lists.{set_again}
 use Rattle.claim_rule.specs.declared.view.ClaimView.{ClaimView}
 use Rattle.claim_rule.specs.Plan.{Pieces, piece_of, final_of}
-use Rattle.claim_rule.specs.Views.{fresh, closed_view, spent_view, claim_drawn, row_claimed, piece_finished, done_seen, judge_drawn, shares_kept, shares_given, views_joined}
+use Rattle.claim_rule.specs.Views.{unused_view, closed_view, spent_view, claim_drawn, row_claimed, piece_finished, done_seen, judge_drawn, shares_kept, shares_given, views_joined}
 use Rattle.claim_rule.specs.Rule.{Fits, IsRuled, IsClosed, IsOpen, Holds}
 use Rattle.claim_rule.specs.Seats.{IsOwed, IsClaimed, IsOnce}
 use Rattle.claim_rule.specs.inner.Steps.{Seated, drawn_at, DrawsFrom, SeesDone}
@@ -174,10 +174,10 @@ pub begins : (rows : ℕ) (words : List ℕ) → words ≡ 0 ∷ 0 ∷ 0 ∷ rep
 begins rows words are = inl record { words = are; views = refl }
 
 pub opens_as : (rows slots id : ℕ) (me : Seated) (plan : Pieces) (shares : ℕ) → me.0 ≡ closed_view → length plan < 2 ^ 32 → 0 < shares → shares ≤ 8
-    → Allows (Holds rows) slots id me 0 (λ n. n) (λ found now. now ≡ (fresh plan shares false, me.1))
+    → Allows (Holds rows) slots id me 0 (λ n. n) (λ found now. now ≡ (unused_view plan shares false, me.1))
 opens_as rows slots id me plan shares closed few some_share most s holds deep at small = ⊎_elim
     (λ (c : IsClosed rows s).
-    let w = fresh plan shares false in
+    let w = unused_view plan shares false in
     let first : (views : List ClaimView) → views ≡ closed_view ∷ [] → get_elem? views id ≡ some me.0 → set views id w ≡ w ∷ [] =
     (λ (views : List ClaimView) (only : views ≡ closed_view ∷ []) (here : get_elem? views id ≡ some me.0). ap (λ (l : List ClaimView). set l id w) only ∙ alone id w me.0 (sym (ap (λ (l : List ClaimView). get_elem? l id) only) ∙ here)) in (
       w,

@@ -49,8 +49,8 @@ pub record Fits (plan : Pieces) (done : ℕ) (v : ClaimView) : Type 0 where
   pub late_claiming : AreLate (length plan) v.shares v.claiming.late
   pub late_judging : AreLate (length plan) v.shares v.judging.late
 
--- the numbers drawn from one counter: they are those below it and below n, each stands once over all views, and the
--- counter counts them and the draws that came too late
+-- the numbers drawn from one counter: they are those below it and below n, each stands once over all views, so many they
+-- are, and the counter counts them and the draws that came too late
 pub record AreDrawn (counter n : ℕ) (draws : ClaimView → Draws) (views : List ClaimView) : Type 0 where
   pub once : (x : ℕ) → sum_by (λ v. times x (draws v).numbers) views ≡ once_below x (min counter n)
   pub drawn : sum_by (λ v. length (draws v).numbers) views ≡ min counter n

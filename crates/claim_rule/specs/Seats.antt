@@ -5,7 +5,7 @@ use Rattle.claim_rule.specs.declared.view.ClaimView.{ClaimView}
 use Rattle.claim_rule.specs.declared.table.ClaimTable.{ClaimTable}
 use Rattle.claim_rule.specs.declared.seat.ClaimSeat.{ClaimSeat}
 use Rattle.claim_rule.specs.Plan.{Pieces, piece_of, IsPlan}
-use Rattle.claim_rule.specs.Views.{times, fresh, claim_drawn, judge_drawn}
+use Rattle.claim_rule.specs.Views.{times, unused_view, claim_drawn, judge_drawn}
 
 -- what a seat knows
 abbrev pub view_of : ClaimSeat → ClaimView
@@ -22,22 +22,23 @@ pub record IsSeatOf (table : ClaimTable) (seat : ClaimSeat) : Type 0 where
   pub opened : (view_of seat).closed ≡ false
   pub some : 0 < (view_of seat).shares
 
--- what a draw tells that gave the number found: it is below n, and one that the seat lacked, of fewer than n that it had;
--- or it is not below n
+-- what a draw tells, by what it answers: the number that it gave is below n, the seat had not drawn it, and had drawn fewer
+-- than n; or it is not below n
 abbrev pub DrawTells : ℕ → Draws → ℕ → Option ℕ → Type 0
 DrawTells n before found (Some x) = (x < n) × (times x before.numbers ≡ 0) × (length before.numbers < n) × (x ≡ found)
 DrawTells n before found None = n ≤ found
 
 -- one draw of a counter: the number that it gave, the view that it leaves, and what it tells
-pub record IsDraw (draws : ClaimView → Draws) (drawn : Option ℕ → ℕ → ClaimView → ClaimView) (old new : ClaimView) (result : Option ℕ) : Type 0 where
+pub record IsDraw (counter : ClaimView → Draws) (after : Option ℕ → ℕ → ClaimView → ClaimView) (old new : ClaimView) (result : Option ℕ) : Type 0 where
   pub found : ℕ
-  pub leaves : new ≡ drawn result found old
-  pub tells : DrawTells (length old.plan) (draws old) found result
+  pub leaves : new ≡ after result found old
+  pub tells : DrawTells (length old.plan) (counter old) found result
 
--- a draw of a claim piece, and one of a judging piece
+-- a draw of a claim piece
 abbrev pub IsClaimDraw : ClaimView → ClaimView → Option ℕ → Type 0
 IsClaimDraw = IsDraw (λ v. v.claiming) claim_drawn
 
+-- a draw of a judging piece
 abbrev pub IsJudgeDraw : ClaimView → ClaimView → Option ℕ → Type 0
 IsJudgeDraw = IsDraw (λ v. v.judging) judge_drawn
 
@@ -63,9 +64,9 @@ pub record AreApart (v w : ClaimView) : Type 0 where
   pub judging : (x : ℕ) → 0 < times x v.judging.numbers → times x w.judging.numbers ≡ 0
 
 -- a seat that knows the plan, has one share, and has done nothing
-pub record IsFreshSeatOf (table : ClaimTable) (plan : Pieces) (seat : ClaimSeat) : Type 0 where
+pub record IsUnusedSeatOf (table : ClaimTable) (plan : Pieces) (seat : ClaimSeat) : Type 0 where
   pub seated : IsSeatOf table seat
-  pub idle : view_of seat ≡ fresh plan 1 false
+  pub idle : view_of seat ≡ unused_view plan 1 false
 
 -- a seat can give away some of its shares, where it keeps one, and as many as its draws that came too late
 pub record CanGive (v : ClaimView) (shares : ℕ) : Type 0 where

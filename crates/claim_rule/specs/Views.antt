@@ -17,12 +17,12 @@ abbrev pub no_draws : Draws
 no_draws = record { numbers = []; late = [] }
 
 -- a seat that knows the plan and has done nothing; it may have the flag, from the seat that it was split from
-abbrev pub fresh : Pieces → ℕ → Bool → ClaimView
-fresh plan shares stable = record { closed = false; plan = plan; shares = shares; claiming = no_draws; pending = []; claims = []; looks = []; stable = stable; judging = no_draws; joined = [] }
+abbrev pub unused_view : Pieces → ℕ → Bool → ClaimView
+unused_view plan shares stable = record { closed = false; plan = plan; shares = shares; claiming = no_draws; pending = []; claims = []; looks = []; stable = stable; judging = no_draws; joined = [] }
 
 -- what a join leaves of the seat that was joined
 abbrev pub spent_view : ClaimView
-spent_view = fresh [] 0 false
+spent_view = unused_view [] 0 false
 
 -- the only view of a table that has no plan yet
 abbrev pub closed_view : ClaimView
@@ -50,7 +50,7 @@ row_claimed row word v = record v { claims = v.claims ++ (row, word) ∷ [] }
 abbrev pub piece_finished : ℕ → ClaimView → ClaimView
 piece_finished piece v = record v { pending = without piece v.pending }
 
--- look at the done word, which gave this count of pieces
+-- look at the done word, which gave this count of pieces; the view has the flag exactly where these are all
 abbrev pub done_seen : ℕ → ClaimView → ClaimView
 done_seen done v = record v { looks = v.looks ++ done ∷ []; stable = done == length v.plan }
 
@@ -64,7 +64,7 @@ shares_kept part v = record v { shares = v.shares - part }
 
 -- and the new one has the plan, the flag and a part of the shares
 abbrev pub shares_given : ℕ → ClaimView → ClaimView
-shares_given part v = fresh v.plan part v.stable
+shares_given part v = unused_view v.plan part v.stable
 
 -- what both have drawn from a counter
 abbrev pub draws_joined : Draws → Draws → Draws

@@ -1,8 +1,8 @@
 //! A table with its seats, and how seats are split and joined.
 ghost use Rattle.std.specs.Prelude.{◌≡◌, ◌+◌, ◌<◌, ◌≤◌, false, [], All, IfOk, OnOk, length};
 ghost use Rattle.claim_rule.specs.Plan.{IsPlan};
-ghost use Rattle.claim_rule.specs.Views.{closed_view, fresh, shares_kept, shares_given, views_joined};
-ghost use Rattle.claim_rule.specs.Seats.{view_of, rows_of, IsSeatOf, IsFreshSeatOf, CanGive, IsOnce, AreApart};
+ghost use Rattle.claim_rule.specs.Views.{closed_view, unused_view, shares_kept, shares_given, views_joined};
+ghost use Rattle.claim_rule.specs.Seats.{view_of, rows_of, IsSeatOf, IsUnusedSeatOf, CanGive, IsOnce, AreApart};
 ghost use Rattle.claim_rule.specs.inner.Made.{IsMade, IsClosedSeatOf};
 
 use crate::limits::MAX_WORKERS;
@@ -27,7 +27,7 @@ impl ClaimTable {
         requires workers { (0 < workers) × (workers ≤ MAX_WORKERS) }
         ensures rows { IfOk result (λ made. rows_of made.0 ≡ rows) }
         ensures count { IfOk result (λ made. length made.1.items ≡ workers) }
-        ensures seats { IfOk result (λ made. All (IsFreshSeatOf made.0 P.plan) made.1.items) }
+        ensures seats { IfOk result (λ made. All (IsUnusedSeatOf made.0 P.plan) made.1.items) }
     {
         let mut seats = Vec::with_capacity(alloc, workers as usize)?;
         let (table, mut first) = ClaimTable::closed(alloc, rows, pieces)?;
@@ -56,7 +56,7 @@ impl ClaimTable {
         requires plan { IsPlan P.plan self.now.rows self.now.pieces }
         requires workers { (0 < workers) × (workers ≤ MAX_WORKERS) }
         ensures seat { IsSeatOf self.now seat.new }
-        ensures view { view_of seat.new ≡ fresh P.plan workers false }
+        ensures view { view_of seat.new ≡ unused_view P.plan workers false }
     {
         self.open_named::<Brand>(seat, workers);
     }
@@ -67,7 +67,7 @@ impl ClaimTable {
         requires named { _workers ≡ Q.shares }
         requires workers { (0 < Q.shares) × (Q.shares ≤ MAX_WORKERS) }
         ensures seat { IsSeatOf self.now seat.new }
-        ensures view { view_of seat.new ≡ fresh Q.plan Q.shares false }
+        ensures view { view_of seat.new ≡ unused_view Q.plan Q.shares false }
     {
         let _pieces = self.pieces;
         self.table.shared.load::<Open<Q>>(&mut seat.seat, CLAIMED);
@@ -81,11 +81,11 @@ impl ClaimTable {
         seats: &mut Vec<ClaimSeat>,
     ) -> Result<(), NoMemory>
         requires seat { IsSeatOf self.now first }
-        requires view { view_of first ≡ fresh P.plan workers false }
+        requires view { view_of first ≡ unused_view P.plan workers false }
         requires none { seats.old.items ≡ [] }
         requires some { 0 < workers }
         ensures count { OnOk result (length seats.new.items ≡ workers) }
-        ensures seats { OnOk result (All (IsFreshSeatOf self.now P.plan) seats.new.items) }
+        ensures seats { OnOk result (All (IsUnusedSeatOf self.now P.plan) seats.new.items) }
     {
         let mut first = first;
         let mut left = workers;

@@ -5,7 +5,7 @@ use std::collections::LinkedList;
 pub struct Draws {
     /// The numbers, in the order in which they were drawn.
     pub numbers: LinkedList<u32>,
-    /// The numbers, none below the count of pieces, that its draws gave that came too late.
+    /// What its late draws gave: numbers that are not below the count of pieces.
     pub late: LinkedList<u64>,
 }
 

@@ -11,6 +11,7 @@ use Rattle.geo_base.specs.declared.row_id.RowId.{RowId}
 abbrev pub text_cmp : List ℕ → List ℕ → Ordering
 text_cmp = slice_cmp nat_cmp
 
+-- two texts are one
 abbrev pub text_eq : List ℕ → List ℕ → Bool
 text_eq = pointwise nat_eq
 
@@ -36,6 +37,7 @@ cell_eq = eq_by_cmp cell_cmp
 abbrev pub cells_cmp : List Cell → List Cell → Ordering
 cells_cmp = slice_cmp cell_cmp
 
+-- two lists of cells are one
 abbrev pub cells_eq : List Cell → List Cell → Bool
 cells_eq = pointwise cell_eq
 
@@ -43,5 +45,6 @@ cells_eq = pointwise cell_eq
 unfoldable pub row_cmp : RowId → RowId → Ordering
 row_cmp a b = ordering_then (nat_cmp a.table b.table) (cells_cmp a.key b.key)
 
+-- two names of rows are one
 unfoldable pub row_eq : RowId → RowId → Bool
 row_eq = eq_by_cmp row_cmp

@@ -6,8 +6,9 @@
 //! see each as a list; so is a [`Many`], of which nothing is checked. Cells, texts, keys, row images,
 //! lines and names of rows have one total order; claims have the order of winning. Values that
 //! compare equal are one value, and a copy equals what it copies. What is put at the end of a text is
-//! the text of the value. `specs/Results.antt` has the words by which every crate above says that a
-//! call answers what a chain of steps gives, unless there is no memory.
+//! the text of the value. `specs/Results.antt` has the words by which the crates above say what
+//! a call answers: what a definition gives, what stands in its input and which fault that has, unless there
+//! is no memory.
 #![tactic(auto)]
 
 mod cell;

@@ -13,12 +13,13 @@ pub trait Printed {
 
     ghost text: { Self → List ℕ };
 
-    /// Puts the text of the value at the end of `out`.
+    /// Puts the text of the value at the end of `out`, which is to be dropped after an error.
     fn print_to(&self, out: &mut String) -> Result<(), NoMemory>
         ensures { OnOk result (string_bytes out.new ≡ string_bytes out.old ++ text self.now) };
 }
 
-/// Puts the items with a comma and a space between them at the end of `out`.
+/// Puts the items with a comma and a space between them at the end of `out`, which is to be dropped after an
+/// error.
 pub fn print_commas<T: Printed>(out: &mut String, items: &[T]) -> Result<(), NoMemory>
     ensures { OnOk result (string_bytes out.new ≡ string_bytes out.old ++ commas T.text items.now) }
 {
@@ -82,7 +83,8 @@ impl Printed for Cell {
     }
 }
 
-/// Puts a row at the end of `out`: its cells in parentheses, with a comma and a space between them.
+/// Puts a row at the end of `out`: its cells in parentheses, with a comma and a space between them. After an
+/// error `out` is to be dropped.
 pub fn print_row(out: &mut String, cells: &[Cell]) -> Result<(), NoMemory>
     ensures { OnOk result (string_bytes out.new ≡ string_bytes out.old ++ row_text cells.now) }
 {

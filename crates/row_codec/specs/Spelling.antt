@@ -26,6 +26,7 @@ IsCell (Int x) = FitsSigned w64 x
 IsCell (Text x) = IsText x
 IsCell (Truth x) = Unit {0}
 
+-- each of them is a cell of the program
 abbrev pub AreCells : List Cell → Type 0
 AreCells cells = AllByRecursion IsCell cells
 

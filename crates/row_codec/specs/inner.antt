@@ -1,4 +1,5 @@
--- What the bodies of readers speak of, step by step; the laws about them, and the proofs of the crates above that read on, go through these steps.
+-- Inner: how readers go, step by step. The calls for fields name their steps in the clause `exact`, for the readers above that are
+-- chains of such steps, and the laws that tie the steps to what stands in the bytes speak of them.
 pub mod Fields
 pub mod Things
 pub mod Reading

@@ -1,4 +1,4 @@
--- Inner: what no promise speaks of. Proofs of the crates above may, where they go through the steps that cut a text.
+-- Inner: how the code cuts a text, step by step. The laws that tie the steps to the grammar speak of them, and so do proofs of the crates above.
 pub mod Keywords
 pub mod Pieces
 pub mod Quoted

@@ -69,7 +69,7 @@ pub fn lex(alloc: Global, text: &str) -> Result<Vec<Token>, LexFault>
     ensures cut { IfOk result (λ tokens. AreTokensOf tokens.items text.now) }
     ensures slices { IfOk result (λ tokens. AreSlicesFrom 0 text.now tokens.items) }
     ensures only { Reads LexFault.NoMemory (λ tokens. tokens.items) result (λ tokens. AreTokensOf tokens text.now) }
-    ensures stops { IfErr result (λ fault. (fault ≡ LexFault.NoMemory) ⊎ IsLexFault text.now fault) }
+    ensures fault { IfErr result (λ fault. (fault ≡ LexFault.NoMemory) ⊎ IsLexFault text.now fault) }
     ensures refused { Refuses LexFault.NoMemory result (IsLexFault text.now) }
 {
     cut_text(alloc, text)

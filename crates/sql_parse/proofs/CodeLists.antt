@@ -14,14 +14,6 @@ read_on p parts n tokens = and_then (others n p tokens) (λ more. pure (parts ++
 pub record IsReadUpTo {A : Type 0} (p : Parser A) (all : Outcome (List A)) (parts : List A) (turns : ℕ) (tokens : List TokenKind) : Type 0 where
   pub rest : all ≡ read_on p parts turns tokens
 
-pub read_first : {A : Type 0} (p : Parser A) (start tokens : List TokenKind) (first : A) (turns : ℕ) →
-    p start ≡ Ok (first, tokens) → turns ≡ length tokens → IsReadUpTo p (separated p start) (first ∷ []) turns tokens
-read_first p start tokens first turns read all = record { rest = rw (read, all) }
-
-pub read_none : {A : Type 0} (p : Parser A) (start : List TokenKind) (stop : Stop) →
-    p start ≡ Err stop → separated p start ≡ Err stop
-read_none p start stop read = rw read
-
 -- a turn more is left
 pub one_turn : {A : Type 0} (p : Parser A) (all : Outcome (List A)) (parts : List A) (end at : ℕ) (tokens : List TokenKind) →
     at < end → IsReadUpTo p all parts (end - at) tokens → IsReadUpTo p all parts (suc (end - (at + 1))) tokens
@@ -45,12 +37,6 @@ read_ended p all parts turns tokens so_far none = so_far.rest ∙ rw none (ap (�
 pub read_all : {A : Type 0} (p : Parser A) (all : Outcome (List A)) (parts : List A) (tokens : List TokenKind) →
     IsReadUpTo p all parts zero tokens → all ≡ Ok (parts, tokens)
 read_all p all parts tokens so_far = so_far.rest ∙ ap (λ l. Ok (l, tokens)) (append-nil parts)
-
--- a comma comes next, and no part behind it
-pub read_stopped : {A : Type 0} (p : Parser A) (all : Outcome (List A)) (parts : List A) (turns : ℕ) (tokens behind : List TokenKind) (stop : Stop) →
-    IsReadUpTo p all parts (suc turns) tokens → begins (is_symbol Comma) tokens ≡ true → symbol Comma tokens ≡ Ok (tt, behind) → p behind ≡ Err stop →
-    all ≡ Err stop
-read_stopped p all parts turns tokens behind stop so_far comma next read = so_far.rest ∙ rw (comma, next, read)
 
 -- a comma and a part come next
 pub read_more : {A : Type 0} (p : Parser A) (all : Outcome (List A)) (parts : List A) (turns : ℕ) (tokens behind new : List TokenKind) (part : A) →

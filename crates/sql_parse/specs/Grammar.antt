@@ -32,13 +32,12 @@ pub record BeginsStatement (tokens : List TokenKind) : Type 0 where
   pub statement : Statement
   pub spelled : IsSpelled (tokens ++ more) statement
 
--- No statement goes on here: the tokens begin a statement up to the place where so many are left, and with one more they
--- begin none; or they all begin one and are none.
+-- the tokens up to and with the next one begin no statement; or there is no next one, and they are none
 abbrev pub Stops : List TokenKind → List TokenKind → Type 0
 Stops front [] = (statement : Statement) → IsSpelled front statement → ⊥
 Stops front (token ∷ more) = BeginsStatement (front ++ token ∷ []) → ⊥
 
--- a statement begins with the tokens up to a place, and with none beyond them; so many are left there
+-- the tokens begin a statement up to the place where so many are left, and no statement goes on there
 pub record IsStuck (tokens : List TokenKind) (left : ℕ) : Type 0 where
   pub front : List TokenKind
   pub rest : List TokenKind
@@ -49,7 +48,7 @@ pub record IsStuck (tokens : List TokenKind) (left : ℕ) : Type 0 where
 
 -- ---- how deep an expression is
 
--- how many tokens of the role there are since the last one that belongs to no expression, after so many
+-- how many operators there are behind the last token that belongs to no expression; where there is none, so many and all
 abbrev pub since_operators : ℕ → List Mark → ℕ
 since_operators n [] = n
 since_operators n (mark ∷ marks) = since_operators (counted n mark.role) marks
@@ -60,7 +59,7 @@ since_operators n (mark ∷ marks) = since_operators (counted n mark.role) marks
     counted n Inside = n
     counted n Outside = 0
 
--- opening parentheses since the last token that belongs to no expression, or since the beginning, where the count began with so many
+-- the same of opening parentheses
 abbrev pub since_openings : ℕ → List Mark → ℕ
 since_openings n [] = n
 since_openings n (mark ∷ marks) = since_openings (counted n mark.role) marks

@@ -60,6 +60,9 @@ const FAULTS: [(&str, &str); 59] = [
     ("UPDATE t SET a = 1 FOR UPDATE", "BadSyntax(19)"),
     ("DELETE FROM t FOR UPDATE", "BadSyntax(14)"),
     ("BEGIN FOR UPDATE", "BadSyntax(6)"),
+    ("BEGIN AS OF EPOCH 1 FOR UPDATE", "BadSyntax(20)"),
+    ("COMMIT FOR UPDATE", "BadSyntax(7)"),
+    ("ROLLBACK FOR UPDATE", "BadSyntax(9)"),
     ("SELECT a FROM t FOR 'x", "BadText(20)"),
     // cut inside a token
     ("SELEC", "BadSyntax(0)"),

@@ -4,7 +4,7 @@ use Rattle.atomic_table.specs.Table.{Me, Step}
 use Rattle.claim_rule.specs.declared.view.Draws.{Draws}
 use Rattle.claim_rule.specs.declared.view.ClaimView.{ClaimView}
 use Rattle.claim_rule.specs.Plan.{Pieces, final_of}
-use Rattle.claim_rule.specs.Views.{times, fresh, claim_drawn, row_claimed, piece_finished, done_seen, judge_drawn}
+use Rattle.claim_rule.specs.Views.{times, unused_view, claim_drawn, row_claimed, piece_finished, done_seen, judge_drawn}
 use Rattle.claim_rule.specs.Seats.{IsOnce}
 
 -- a seat's view, and the slots that it holds, of which there are none
@@ -48,4 +48,4 @@ abbrev pub Settles : Step (Unit {0}) → Seated → ℕ → Seated → Type 0
 Settles step me found now = (now ≡ me) × IsOnce me.0 × All (λ p. p ≡ me.0.plan) me.0.joined
 
 abbrev pub Opens : Pieces → ℕ → Step (Unit {0}) → Seated → ℕ → Seated → Type 0
-Opens plan shares step me found now = now ≡ (fresh plan shares false, me.1)
+Opens plan shares step me found now = now ≡ (unused_view plan shares false, me.1)

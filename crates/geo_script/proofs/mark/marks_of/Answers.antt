@@ -7,4 +7,4 @@ returns-in_ok-each_mark-in-Ok c =
     ap Some c.in_ok-each_mark-in-Ok.ensures ∙ sym (cut_marks c.args.text.now c.in-Ok.tokens.items c.in-Ok.ensures.cut)
 
 pub returns-in-Err-BadText : goal.returns-in-Err-BadText
-returns-in-Err-BadText c = sym (stop_marks c.args.text.now c.in-Err-BadText.field-0 c.in-Err-BadText.field-0-0 c.in-Err-BadText.field-0-is c.in-Err-BadText.ensures.stops)
+returns-in-Err-BadText c = sym (stop_marks c.args.text.now c.in-Err-BadText.field-0 c.in-Err-BadText.field-0-0 c.in-Err-BadText.field-0-is c.in-Err-BadText.ensures.fault)

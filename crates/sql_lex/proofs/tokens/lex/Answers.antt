@@ -9,8 +9,8 @@ returns-clause-cut c = answer_found _ (λ tokens. tokens.items) _ _ _ _ (tokens_
 pub returns-clause-only : goal.returns-clause-only
 returns-clause-only c = answer_only _ (λ tokens. tokens.items) _ _ _ _ (tokens_tell c.args.text.now) (tt {0}) _ c.cut_text.ensures
 
-pub returns-clause-stops : goal.returns-clause-stops
-returns-clause-stops c = answer_faulty _ (λ tokens. tokens.items) _ _ _ _ (tokens_tell c.args.text.now) (tt {0}) _ c.cut_text.ensures
+pub returns-clause-fault : goal.returns-clause-fault
+returns-clause-fault c = answer_faulty _ (λ tokens. tokens.items) _ _ _ _ (tokens_tell c.args.text.now) (tt {0}) _ c.cut_text.ensures
 
 pub returns-clause-refused : goal.returns-clause-refused
 returns-clause-refused c = answer_refused _ (λ tokens. tokens.items) _ _ _ _ (tokens_tell c.args.text.now) (tt {0}) _ c.cut_text.ensures

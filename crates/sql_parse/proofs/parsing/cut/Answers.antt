@@ -4,4 +4,4 @@ use Rattle.sql_lex.specs.laws.Cuts.{tokens_tell}
 use Rattle.sql_parse.proofs.parsing.cut.Goals as goal
 
 pub returns : goal.returns
-returns c = answer_gives _ (λ tokens. tokens.items) _ _ _ _ (tokens_tell c.args.text.now) (tt {0}) _ c.lex.ensures.cut c.lex.ensures.stops
+returns c = answer_gives _ (λ tokens. tokens.items) _ _ _ _ (tokens_tell c.args.text.now) (tt {0}) _ c.lex.ensures.cut c.lex.ensures.fault
