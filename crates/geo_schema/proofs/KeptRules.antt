@@ -1,5 +1,5 @@
 -- Where no fault is found, tables keep their rules, and uniques have their columns.
-use Rattle.std.proofs.Common.{◌≡◌, ℕ, Option, Some, None, IfSome, Bor, sym, List, length, map, get_or, subst}
+use Rattle.std.proofs.Common.{◌≡◌, ℕ, Option, Some, None, IfSome, Bor, sym, List, map, subst}
 use Rattle.std.specs.List.{All, slice_get}
 use Rattle.std.specs.Option.{option_copied}
 use Rattle.std.proofs.lemmas.List.{get_or_default}

@@ -1,5 +1,5 @@
 -- The rules of uniques, and the hidden table of each.
-use Rattle.std.specs.Prelude.{◌≡◌, ◌≢◌, ℕ, ◌<◌, true, List, [], ◌++◌, length, map, slice_index_or}
+use Rattle.std.specs.Prelude.{◌≢◌, ℕ, ◌<◌, true, List, [], ◌++◌, length, map, slice_index_or}
 use Rattle.std.specs.List.{All, range_with_len}
 use Rattle.geo_schema.specs.declared.column.ColumnDef.{ColumnDef}
 use Rattle.geo_schema.specs.declared.limits.TheConstants.{MAX_UNIQUES, MAX_UNIQUE_COLUMNS}

@@ -28,8 +28,8 @@ pub enum SchemaFault {
     /// The first unique that breaks a rule of uniques, by its place from 0 on, where nothing is wrong with the
     /// tables that are shown. It is the 65th where there are too many and the first 64 are in order.
     BadUnique(u8),
-    /// There was no memory for the name in [`SchemaFault::Twice`] or for a hidden table. It says nothing of
-    /// the tables and uniques.
+    /// There was no memory, for a name that stands twice or for a hidden table. It says nothing of the tables
+    /// and uniques.
     NoMemory,
 }
 

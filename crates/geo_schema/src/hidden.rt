@@ -1,5 +1,5 @@
 //! The hidden tables of uniques.
-ghost use Rattle.std.specs.Prelude.{◌≡◌, ◌<◌, ◌≤◌, ◌++◌, length, map, IfOk, OnOk};
+ghost use Rattle.std.specs.Prelude.{◌≡◌, ◌<◌, ◌++◌, length, map, IfOk, OnOk};
 ghost use Rattle.std.specs.List.{All, range_with_len};
 ghost use Rattle.geo_schema.specs.Tables.{IsTable};
 ghost use Rattle.geo_schema.specs.Uniques.{HasColumns, hidden_column, hidden_columns, hidden_table};

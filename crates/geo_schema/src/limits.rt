@@ -1,5 +1,5 @@
 //! The limits of uniques, and the numbers of their hidden tables.
-ghost use Rattle.std.specs.Prelude.{◌≡◌, ◌≤◌, ◌+◌};
+ghost use Rattle.std.specs.Prelude.{◌≡◌, ◌≤◌};
 ghost use Rattle.geo_base.specs.declared.limits.TheConstants.{MAX_TABLES};
 
 use geo_base::TableNo;

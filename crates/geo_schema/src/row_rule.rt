@@ -1,5 +1,5 @@
 //! Whether cells are a row of a table, and the key of a row.
-ghost use Rattle.std.specs.Prelude.{◌≡◌, ◌<◌, ◌≤◌, true, length, map, slice_index_or, IfOk, MatchOption};
+ghost use Rattle.std.specs.Prelude.{◌≡◌, ◌<◌, ◌≤◌, length, map, slice_index_or, IfOk, MatchOption};
 ghost use Rattle.std.specs.List.{All};
 ghost use Rattle.geo_base.specs.declared.limits.TheConstants.{MAX_COLUMNS};
 ghost use Rattle.geo_schema.specs.Rows.{is_too_long, is_in, Suits, IsCause, IsRow, key_cells};

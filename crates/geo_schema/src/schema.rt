@@ -45,8 +45,7 @@ impl Model for Schema {
 
 impl Schema {
     /// The schema of these tables, without uniques. Compares the names of each two tables, and within a
-    /// table those of each two columns, key places and indexes. Takes memory for the name in
-    /// [`SchemaFault::Twice`] alone.
+    /// table those of each two columns, key places and indexes.
     pub fn new(alloc: Global, tables: Vec<TableDef>) -> Result<Schema, SchemaFault>
         ensures schema { IfOk result (λ s. (s ≡ shown_only tables.items) × IsSchema (shown_only tables.items)) }
         ensures fault { IfErr result (λ e. (e ≡ SchemaFault.NoMemory) ⊎ IsSchemaFault (shown_only tables.items) e) }
@@ -55,7 +54,7 @@ impl Schema {
     }
 
     /// The schema of these tables and uniques. Compares as [`Schema::new`] does, and the name of each
-    /// unique with those of all tables, indexes and earlier uniques. Takes memory for the hidden tables.
+    /// unique with those of all tables, indexes and earlier uniques.
     #[tactic(auto, using(crate::specs::laws::Schemas::is_schema_fault, crate::proofs::KeptRules::columns_kept))]
     pub fn with_unique(
         alloc: Global,

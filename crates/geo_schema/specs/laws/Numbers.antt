@@ -1,15 +1,13 @@
 -- Laws: which numbers are those of tables, what the tables are, and that each has what rows need and a name of its own.
-use Rattle.std.proofs.Common.{◌≡◌, ◌≢◌, ◌⊎◌, ℕ, ◌+◌, ◌-◌, ◌<◌, ◌≤◌, true, Option, Some, None, List, length, map, take, get_or, position, inl, inr, refl, sym, ap, ◌∙◌, subst, arith}
+use Rattle.std.proofs.Common.{◌≡◌, ◌⊎◌, ℕ, ◌+◌, ◌-◌, ◌<◌, ◌≤◌, Option, Some, None, List, length, get_or, inl, inr, refl, sym, ap, ◌∙◌, subst, arith}
 use Rattle.std.specs.List.{slice_get}
-use Rattle.std.specs.Option.{IsSome, is_some, unwrap_or}
-use Rattle.std.proofs.lemmas.Bool.{cases_lt, cases_order, lt-ltb, le-ltb}
-use Rattle.std.proofs.lemmas.List.{length-map, get_or-map, get_or-take, length-take}
+use Rattle.std.specs.Option.{IsSome, unwrap_or}
+use Rattle.std.proofs.lemmas.Bool.{cases_lt, lt-ltb, le-ltb}
+use Rattle.std.proofs.lemmas.List.{length-map, get_or-map}
 use Rattle.std.proofs.lemmas.Option.{slice_get-get_or, slice_get_past, slice_get_within, get_or_from_slice_get, unwrap_or-slice_get}
 use Rattle.geo_base.specs.declared.limits.TheConstants.{MAX_TABLES}
-use Rattle.geo_base.specs.laws.Orders.{text_eq_decides}
 use Rattle.geo_schema.specs.declared.limits.TheConstants.{FIRST_HIDDEN}
 use Rattle.geo_schema.specs.declared.table.TableDef.{TableDef}
-use Rattle.geo_schema.specs.declared.unique.UniqueDef.{UniqueDef}
 use Rattle.geo_schema.specs.Schemas.{Tables, IsSchema, IsTableNo, hidden_tables, table_numbered, table_at}
 use Rattle.geo_schema.specs.Tables.{TakesRows, IsTable, no_table, table_in}
 use Rattle.geo_schema.specs.Uniques.{no_unique, unique_in, hidden_table}

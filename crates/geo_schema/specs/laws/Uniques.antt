@@ -1,7 +1,7 @@
 -- Laws: the tests of the rules of uniques pass exactly where the rules are kept, and the first unique that breaks one is found.
 use Rattle.std.proofs.Common.{◌≡◌, ◌≢◌, ℕ, ◌+◌, ◌<◌, Bool, true, false, ◌&&◌, not, nat_lt, Some, None, List, length, take, arith}
 use Rattle.std.specs.Bool.{Decides}
-use Rattle.std.specs.List.{All, list_all}
+use Rattle.std.specs.List.{list_all}
 use Rattle.std.proofs.lemmas.Bool.{both_ways, not-false, not_from_true, not_from_false, false_from_ne_true}
 use Rattle.std.proofs.lemmas.Bool.Decides.{Decides-not}
 use Rattle.geo_base.specs.Order.{text_eq}
