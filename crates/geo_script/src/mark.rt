@@ -9,7 +9,7 @@ use sql_lex::{Keyword, LexFault, Symbol, Token, TokenKind, lex};
 use std::alloc::Global;
 
 /// What a token is in a line that declares a table or an index.
-#[derive(Debug, Drop)]
+#[derive(Drop)]
 pub(crate) enum Mark {
     /// A name.
     Name(Txt),

@@ -8,7 +8,7 @@ use std::alloc::Global;
 use std::marker::Model;
 
 /// What a run has had so far: the regions with a line that crashes them, and the sessions with statements.
-#[derive(Debug, Drop)]
+#[derive(Drop)]
 pub(crate) struct Past {
     crashed: Vec<RegionNo>,
     sessions: Vec<(RegionNo, u8)>,

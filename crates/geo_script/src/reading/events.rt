@@ -4,8 +4,8 @@ ghost use Rattle.geo_script.specs.declared.script.Form.TheVariants.{Play, Run};
 ghost use Rattle.geo_script.specs.inner.Answers.{Answers, spoken};
 ghost use Rattle.geo_script.specs.inner.EventLines as spec;
 ghost use Rattle.geo_script.specs.declared.verb.Verb.TheVariants.{Sql};
-ghost use Rattle.geo_script.specs.inner.Past.{nothing_yet};
-ghost use Rattle.geo_script.specs.inner.Scripts.{events_of};
+ghost use Rattle.geo_script.specs.inner.Past.{nothing_yet, next_past};
+ghost use Rattle.geo_script.specs.inner.Scripts.{at, events_of};
 
 use crate::event::Event;
 use crate::fault::{ScriptKind, ScriptRefusal, bad};
@@ -157,6 +157,32 @@ fn event_line(
     }
 }
 
+/// The event of the line with this number, which the past then has too.
+fn event_at(
+    alloc: Global,
+    form: Form,
+    regions: u8,
+    past: &mut Past,
+    number: u32,
+    line: &[u8],
+) -> Result<EventAt, ScriptRefusal>
+    requires { 1 ≤ regions }
+    ensures event { Answers (λ at. at.event) result (at number (spec.event_line form regions past.old line.now)) }
+    ensures line { IfOk result (λ at. at.line ≡ number) }
+    ensures past { IfOk result (λ at. past.new ≡ next_past form past.old at.event) }
+{
+    match event_line(alloc, form, regions, past, line)? {
+        Ok(event) => {
+            past.add(form, &event)?;
+            Ok(EventAt {
+                line: number,
+                event,
+            })
+        }
+        Err(kind) => Err(bad(number, kind)),
+    }
+}
+
 /// The events of all lines that say something.
 pub(crate) fn read_events(
     alloc: Global,
@@ -172,13 +198,8 @@ pub(crate) fn read_events(
     let mut events = Vec::new(alloc);
     let mut behind = rest;
     while let Ok(next) = next_spoken(behind) {
-        let event = match event_line(alloc, form, regions, &past, next.line)? {
-            Ok(event) => event,
-            Err(kind) => return Err(bad(next.number, kind)),
-        };
-        past.add(form, &event)?;
-        let line = next.number;
-        events.push(EventAt { line, event })?;
+        let event = event_at(alloc, form, regions, &mut past, next.number, next.line)?;
+        events.push(event)?;
         behind = next.rest;
     }
     Ok(EventAtList::new(events))

@@ -9,14 +9,14 @@ use crate::fault::ScriptKind;
 use memchr::memchr;
 
 /// The rest of a script, from the line with this number on.
-#[derive(Clone, Copy, Debug)]
+#[derive(Clone, Copy)]
 pub(crate) struct Rest<'a> {
     pub bytes: &'a [u8],
     pub number: u32,
 }
 
 /// A line that says something, its number, and the rest behind it.
-#[derive(Clone, Copy, Debug)]
+#[derive(Clone, Copy)]
 pub(crate) struct Spoken<'a> {
     pub line: &'a [u8],
     pub number: u32,
