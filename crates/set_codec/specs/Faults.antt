@@ -12,6 +12,7 @@ use Rattle.row_codec.specs.Faults.{IsFaultAt}
 use Rattle.row_codec.specs.Fields.{IsCut, ByteStands, NumberStands, FieldStands}
 use Rattle.row_codec.specs.Parts.{FirstOrLater, Breaks, IsFaultOfThings}
 use Rattle.row_codec.specs.Spelling.{CellStands}
+use Rattle.write_set.specs.Bounds.{IsCandidateCount, IsStartOf, IsRowCount, IsSetSize}
 use Rattle.set_codec.specs.declared.fault.CodecFault.{CodecFault}
 use Rattle.set_codec.specs.declared.fault.CodecFault.TheVariants.{Short, BadTag, NotOrdered, BadRow, BadStart, OverLimit, Trailing}
 use Rattle.set_codec.specs.declared.fault.Limit.TheVariants as limit
@@ -20,7 +21,6 @@ use Rattle.set_codec.specs.declared.kind.Kind.{Kind}
 use Rattle.set_codec.specs.declared.kind.Kind.TheVariants as kind
 use Rattle.set_codec.specs.CellFaults.{fault_of}
 use Rattle.set_codec.specs.Rules.{IsMark, IsRegionOf, IsOther, IsSealable, IsBatchSize, IsEnd, IsTableOf, IsKind, IsAfter, IsTaken, IsPacketKind}
-use Rattle.write_set.specs.Bounds.{IsCandidateCount, IsStartOf, IsRowCount, IsSetSize}
 use Rattle.set_codec.specs.Spelling.{changes_spelling}
 use Rattle.set_codec.specs.Standing.{MarkStands, RegionStands, OtherStands, EpochStands, CountStands, StartStands, RowsStand, TableStands, KindStands, KeyStands, RowStands, row_before, ChangesStand, CandidatesStand, BatchStands}
 

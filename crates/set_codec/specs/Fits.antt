@@ -10,6 +10,7 @@ use Rattle.write_set.specs.declared.change.Change.{Change}
 use Rattle.write_set.specs.declared.change.Change.TheVariants.{Put, Remove, Touch}
 use Rattle.write_set.specs.declared.candidate.Candidate.{Candidate}
 use Rattle.write_set.specs.declared.batch.Batch.{Batch}
+use Rattle.write_set.specs.Bounds.{IsSetSize}
 use Rattle.write_set.specs.Sets.{ChangeOfRow}
 use Rattle.write_set.specs.Journal.{IsBatch}
 use Rattle.set_codec.specs.declared.format.Format.{Format}
@@ -17,7 +18,6 @@ use Rattle.set_codec.specs.declared.format.Format.TheVariants as format
 use Rattle.set_codec.specs.declared.packet.Packet.{Packet}
 use Rattle.set_codec.specs.declared.packet.Packet.TheVariants as packet
 use Rattle.set_codec.specs.Rules.{IsRegionOf, IsOther, IsSealable, IsBatchSize, IsTableOf, has_kind, IsTaken}
-use Rattle.write_set.specs.Bounds.{IsSetSize}
 use Rattle.set_codec.specs.Spelling.{kind_of, changes_spelling, batch_spelling}
 
 -- each of the cells is taken by the column at its place, where the first one's place is the i-th

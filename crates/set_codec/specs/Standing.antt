@@ -13,13 +13,13 @@ use Rattle.row_codec.specs.Places.{StandsAt}
 use Rattle.row_codec.specs.Spelling.{cells_spelling, AreCells, CellStands}
 use Rattle.write_set.specs.declared.candidate.Candidate.{Candidate}
 use Rattle.write_set.specs.declared.batch.Batch.{Batch}
+use Rattle.write_set.specs.Bounds.{IsCandidateCount, IsStartOf, IsRowCount}
 use Rattle.write_set.specs.Journal.{IsCandidate, IsBatch}
 use Rattle.write_set.specs.Sets.{ChangeOfRow}
 use Rattle.set_codec.specs.declared.format.Format.{Format}
 use Rattle.set_codec.specs.declared.kind.Kind.{Kind}
 use Rattle.set_codec.specs.Fits.{AreTaken, FitsTable, FitsTables, HasCells, HaveCells, HasChange, HasChanges}
 use Rattle.set_codec.specs.Rules.{IsMark, IsRegionOf, IsOther, IsSealable, IsTableOf, IsKind, IsAfter, IsTaken}
-use Rattle.write_set.specs.Bounds.{IsCandidateCount, IsStartOf, IsRowCount}
 use Rattle.set_codec.specs.Spelling.{other_cells, changes_spelling, candidates_spelling, batch_spelling}
 
 -- ---- fields

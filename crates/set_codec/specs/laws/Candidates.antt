@@ -13,6 +13,7 @@ use Rattle.row_codec.specs.laws.Tells.{tells_as, tells_done, tells_then, tells_k
 use Rattle.geo_base.specs.laws.Answers.{Tells}
 use Rattle.row_codec.specs.laws.Things.{IsList, IsBehind, things_tell}
 use Rattle.write_set.specs.declared.candidate.Candidate.{Candidate}
+use Rattle.write_set.specs.Bounds.{IsSetSize}
 use Rattle.write_set.specs.Journal.{IsCandidate}
 use Rattle.write_set.specs.Sets.{ChangeOfRow}
 use Rattle.set_codec.specs.declared.format.Format.{Format}
@@ -21,7 +22,6 @@ use Rattle.set_codec.specs.declared.fault.CodecFault.TheVariants.{OverLimit}
 use Rattle.set_codec.specs.declared.fault.Limit.TheVariants as limit
 use Rattle.set_codec.specs.Faults.{IsStartFault, IsRowsFault, IsChangesFault, IsCandidateFault, IsCandidatesFault}
 use Rattle.set_codec.specs.Fits.{FitsTable, FitsTables, HasCells, HaveCells, HasChange, HasChanges}
-use Rattle.write_set.specs.Bounds.{IsSetSize}
 use Rattle.set_codec.specs.Spelling.{number_spelling, changes_spelling, candidate_spelling, candidates_spelling}
 use Rattle.set_codec.specs.Standing.{StartStands, RowsStand, ChangesStand, CandidatesStand}
 use Rattle.set_codec.specs.inner.Reading.{start_at, rows_at, changes_at, candidate_at, candidates_at}

@@ -18,6 +18,7 @@ use Rattle.row_codec.specs.Places.{AreBytes}
 use Rattle.row_codec.specs.laws.Fields.{wide32, field_tells, byte_tells, number_tells}
 use Rattle.row_codec.specs.laws.Tells.{tells_as, tells_done, tells_then, tells_kept, tells_rule}
 use Rattle.geo_base.specs.laws.Answers.{Tells}
+use Rattle.write_set.specs.Bounds.{IsCandidateCount, IsStartOf, IsRowCount}
 use Rattle.set_codec.specs.declared.fault.CodecFault.{CodecFault}
 use Rattle.set_codec.specs.declared.fault.CodecFault.TheVariants.{Short, BadTag, BadRow, BadStart, OverLimit, Trailing}
 use Rattle.set_codec.specs.declared.fault.Limit.TheVariants as limit
@@ -27,7 +28,6 @@ use Rattle.set_codec.specs.declared.kind.Kind.{Kind}
 use Rattle.set_codec.specs.declared.kind.Kind.TheVariants as kind
 use Rattle.set_codec.specs.Faults.{IsMarkFault, IsRegionFault, IsOtherFault, IsEpochFault, IsCountFault, IsStartFault, IsRowsFault, IsTableFault, IsKindFault, IsTrailing}
 use Rattle.set_codec.specs.Rules.{IsMark, IsRegionOf, IsOther, IsSealable, IsTableOf, has_kind, IsKind, IsEnd}
-use Rattle.write_set.specs.Bounds.{IsCandidateCount, IsStartOf, IsRowCount}
 use Rattle.set_codec.specs.Spelling.{mark}
 use Rattle.set_codec.specs.Standing.{Names, MarkStands, RegionStands, OtherStands, EpochStands, CountStands, StartStands, RowsStand, TableStands, KindStands}
 use Rattle.set_codec.specs.inner.Reading.{named_at, format_named, touch_in, kind_named, mark_at, region_at, is_other, other_at, epoch_at, count_at, start_at, rows_at, table_no_at, kind_at, end_at}
