@@ -1,4 +1,4 @@
--- A snapshot has no more rows than the journal's candidates change.
+-- A snapshot has no more rows than the journal's candidates have, changed or touched.
 use Rattle.std.proofs.Common.{◌≡◌, ℕ, zero, suc, ◌+◌, ◌≤◌, Bool, true, false, not, Option, None, Some, List, [], ◌∷◌, length, sum_by, refl, sym, ap, ◌∙◌, arith, le_trans}
 use Rattle.std.specs.List.{filter, cons_option, slice_get}
 use Rattle.std.specs.Map.{remove_entry}
@@ -54,7 +54,7 @@ overlay-length rows (p ∷ ps) = omega (arith, overlay-length (changed p rows) p
 
 -- ---- epochs
 
--- how many rows the candidates change
+-- how many rows the candidates have, changed or touched
 abbrev placed_rows : List Placed → ℕ
 placed_rows cs = sum_by (λ c. length c.set) cs
 
@@ -87,7 +87,7 @@ rows-le (all ∷ older) =
 
 -- ---- journals
 
--- how many rows the candidates of the batch change
+-- how many rows the candidates of the batch have
 abbrev pub batch_rows : Batch → ℕ
 batch_rows b = sum_by (λ c. length c.set) b.items
 
@@ -183,6 +183,6 @@ epochs-le (log ∷ logs) e =
     both_below (rows_below log e) (epochs_rows (epochs_of logs e)) (log_rows log) (sum_by log_rows logs) (epochs_rows (epochs_of (log ∷ logs) e))
     (sum_by log_rows (log ∷ logs)) (log-apart log logs e) (below-le log e) (epochs-le logs e) (sum_by-cons log_rows log logs)
 
--- the snapshot of any epoch has no more rows than the journal's candidates change
+-- the snapshot of any epoch has no more rows than the journal's candidates have
 pub snapshot-rows : (journal : Journal) (e : ℕ) → length (snap_rows (epochs_of journal e)) ≤ sum_by log_rows journal
 snapshot-rows journal e = le_trans (rows-le (epochs_of journal e)) (epochs-le journal e)
