@@ -16,7 +16,7 @@ use Rattle.geo_script.specs.declared.script.Script.{Script}
 use Rattle.geo_script.specs.inner.EventLines.{OfLine}
 use Rattle.geo_script.specs.Faults.{BeginsScript, IsWrongHead, IsWrongEvent, IsWrong, lacking, LacksLine, HasBadLine, IsFault}
 use Rattle.geo_script.specs.Lines.{lines_of, is_silent, spoken_from}
-use Rattle.geo_script.specs.inner.Past.{nothing_yet, past_behind}
+use Rattle.geo_script.specs.inner.Past.{nothing_yet}
 use Rattle.geo_script.specs.inner.Scripts.{Checked, bad, at, title_line, regions_line, head_of, events_of, body_of, script_of_lines, script_of}
 use Rattle.geo_script.specs.Spelling.{title, AreDeclared, AreEventLines, IsLawful, IsScript}
 use Rattle.geo_base.specs.Results.{◌>>=◌}

@@ -1,5 +1,5 @@
 -- Marks of a text, by what its tokens are.
-use Rattle.std.proofs.Common.{◌≡◌, ℕ, List, map, Option, Some, None, Result, Ok, Err, refl, sym, ap, ◌⊎◌, inl, inr}
+use Rattle.std.proofs.Common.{◌≡◌, ℕ, List, map, Some, None, Result, Ok, Err, refl, sym, ap, ◌⊎◌, inl, inr}
 use Rattle.sql_lex.specs.declared.token.LexFault.{LexFault}
 use Rattle.sql_lex.specs.declared.token.LexFault.TheVariants.{BadText, NoMemory}
 use Rattle.sql_lex.specs.declared.token.Token.{Token}

@@ -8,7 +8,7 @@ use Rattle.geo_script.specs.declared.event.Event.{Event}
 use Rattle.geo_script.specs.declared.event.Event.TheVariants as event
 use Rattle.geo_script.specs.declared.fault.ScriptKind.{ScriptKind}
 use Rattle.geo_script.specs.declared.fault.ScriptKind.TheVariants.{NotUtf8, BadHeader, BadTable, BadIndex, BadLine, BadNumber, LongStatement, TooManySessions}
-use Rattle.geo_script.specs.declared.limits.TheConstants.{STATEMENT_BYTES, SESSIONS_PER_RUN}
+use Rattle.geo_script.specs.declared.limits.TheConstants.{STATEMENT_BYTES}
 use Rattle.geo_script.specs.declared.script.EventAt.{EventAt}
 use Rattle.geo_script.specs.declared.script.Form.{Form}
 use Rattle.geo_script.specs.declared.script.Form.TheVariants.{Play, Run}

@@ -1,5 +1,5 @@
 -- What readers answer, in terms of spellings and of what is wrong with the bytes.
-use Rattle.std.proofs.Common.{◌≡◌, ℕ, ◌≤◌, None, List, Result, Ok, Err, sym}
+use Rattle.std.proofs.Common.{◌≡◌, ℕ, ◌≤◌, None, List, Result, Ok, Err}
 use Rattle.std.specs.Prelude.{IfOk}
 use Rattle.geo_base.specs.Results.{Gives, Reads}
 use Rattle.geo_base.specs.declared.limits.TheConstants.{MAX_REGIONS}

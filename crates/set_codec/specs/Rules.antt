@@ -1,5 +1,5 @@
 -- The rules of the format, each stated once; those of starts and of counts are in write_set: Bounds. What stands keeps them, and a fault is that one is broken.
-use Rattle.std.specs.Prelude.{◌≡◌, ◌⊎◌, ℕ, ◌+◌, ◌<◌, ◌≤◌, Bool, true, false, Option, Some, None, List, length, slice_index_or}
+use Rattle.std.specs.Prelude.{◌≡◌, ◌⊎◌, ℕ, ◌<◌, ◌≤◌, Bool, true, false, Option, Some, None, List, length, slice_index_or}
 use Rattle.std.specs.declared.cmp.Ordering.TheVariants as order
 use Rattle.geo_base.specs.declared.limits.TheConstants.{MAX_BATCH_BYTES, LAST_EPOCH}
 use Rattle.geo_base.specs.declared.cell.Cell.{Cell}

@@ -1,10 +1,9 @@
 -- Inner: how a line that declares a table or an index is read, beside the tables above it.
-use Rattle.std.specs.Prelude.{ℕ, ◌==◌, true, false, nat_le, if◌then◌else◌, is_none, List, [], ◌∷◌, ◌++◌, length, map, codes, Option, Some, None, option_and_then, ok_or, Ok, Err, ℤ, pos, negsuc}
+use Rattle.std.specs.Prelude.{ℕ, ◌==◌, true, false, nat_le, if◌then◌else◌, is_none, List, [], ◌∷◌, ◌++◌, length, codes, Option, Some, None, option_and_then, ok_or, Ok, Err, ℤ, pos, negsuc}
 use Rattle.std.specs.List.{slice_split}
 use Rattle.std.specs.Option.{option_map}
 use Rattle.std.specs.Str.{bytes_eq, is_utf8}
 use Rattle.geo_base.specs.declared.limits.TheConstants.{MAX_TEXT_BYTES, MAX_COLUMNS}
-use Rattle.geo_schema.specs.declared.column.ColumnDef.{ColumnDef}
 use Rattle.geo_schema.specs.declared.column.Kind.{Kind}
 use Rattle.geo_schema.specs.declared.column.Kind.TheVariants as kind
 use Rattle.geo_schema.specs.declared.index.IndexDef.{IndexDef}

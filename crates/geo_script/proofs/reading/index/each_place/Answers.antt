@@ -1,4 +1,4 @@
-use Rattle.std.proofs.Common.{◌≡◌, ◌∙◌, sym, arith}
+use Rattle.std.proofs.Common.{◌∙◌, sym, arith}
 use Rattle.geo_script.specs.Tables.{column_place}
 use Rattle.geo_script.proofs.Lists.{one_read, not_read}
 use Rattle.geo_script.proofs.reading.index.each_place.Goals as goal
