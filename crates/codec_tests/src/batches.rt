@@ -1,21 +1,15 @@
 //! Batches as bytes: one worked batch, faults with their places, limits, and bytes of any kind.
-use crate::bytes::bytes_of;
+use crate::bytes::{bytes_of, marked};
 use crate::printing::{batch_text, is_answer};
-use crate::tables::{schema_of, two_tables};
+use crate::tables::{schema_named, two_tables};
 use geo_schema::Schema;
 use set_codec::{CodecFault, Limit, batch_bytes, batch_size, read_batch};
 use std::alloc::Global;
 use std::test::Fail;
 
-const NUMBERS: &str = "table acc (id INT KEY, amount INT)";
-
-const TEXTS: &str = "table acc (id INT KEY, amount TEXT)";
-
-const NARROW: &str = "table acc (id INT KEY, amount INT NOT NULL, note TEXT(8))";
-
-/// A batch of the two tables, and what it says.
+/// A batch of the two tables in GGB2, and what it says.
 const BATCH: [u8; 88] = [
-    0x47, 0x47, 0x42, 0x31, 2, 0, 0, 0, 5, 0, 0, 0, 2, 0, 0, 0, 4, 0, 0, 0, 2, 0, 1, 1, 0, 0, 0, 0,
+    0x47, 0x47, 0x42, 0x32, 2, 0, 0, 0, 5, 0, 0, 0, 2, 0, 0, 0, 4, 0, 0, 0, 2, 0, 1, 1, 0, 0, 0, 0,
     0, 0, 0, 1, 0, 1, 1, 1, 0, 0, 0, 0, 0, 0, 0, 7, 2, 0, 2, 0xc3, 0xa9, 4, 0, 0, 0, 3, 0, 0, 0, 2,
     1, 1, 1, 0xff, 0xff, 0xff, 0xff, 0xff, 0xff, 0xff, 0xff, 2, 0, 0, 3, 1, 2, 1, 0, 0, 0, 0, 0, 0,
     0, 0, 2, 0, 1, 0x61,
@@ -26,8 +20,10 @@ region 2 epoch 5
 start 4; 0(1) -> (1, NULL); 1(7, 'é') -> ('é', TRUE, 7)
 start 3; 1(-1, '') -> ('', FALSE, -1); 1(0, 'a') removed";
 
-fn is_worked_batch(alloc: Global, schema: &Schema) -> Result<bool, Fail> {
-    let batch = read_batch(alloc, schema, 3, &BATCH)?;
+/// Whether the bytes of the batch, with this digit in their mark, are read as what it says, and what is read
+/// has its bytes in GGB2.
+fn is_worked_batch(alloc: Global, schema: &Schema, digit: u8) -> Result<bool, Fail> {
+    let batch = read_batch(alloc, schema, 3, &marked(alloc, &BATCH, digit)?)?;
     let text = batch_text(alloc, &batch)?;
     let spelled = batch_bytes(alloc, schema, &batch)?;
     Ok(
@@ -38,19 +34,12 @@ fn is_worked_batch(alloc: Global, schema: &Schema) -> Result<bool, Fail> {
 }
 
 #[test]
-fn a_batch_has_its_spelling(rt: HostRuntime) -> Result<(), Fail> {
+fn a_batch_is_read_in_both_formats(rt: HostRuntime) -> Result<(), Fail> {
     let schema = two_tables(rt.alloc())?;
-    assert!(rt; is_worked_batch(rt.alloc(), &schema)?);
-    Ok(())
-}
-
-fn schema_named(alloc: Global, name: &str) -> Result<Schema, Fail> {
-    match name {
-        "numbers" => schema_of(alloc, NUMBERS),
-        "texts" => schema_of(alloc, TEXTS),
-        "narrow" => schema_of(alloc, NARROW),
-        _ => two_tables(alloc),
+    for digit in *b"12" {
+        assert!(rt; is_worked_batch(rt.alloc(), &schema, digit)?);
     }
+    Ok(())
 }
 
 /// What bytes are told that are to be a batch of the tables.
@@ -60,74 +49,124 @@ fn told(alloc: Global, tables: &str, regions: u8, words: &str) -> Result<Option<
     Ok(read_batch(alloc, &schema, regions, &bytes).err())
 }
 
-/// The tables, the number of regions, bytes, and what these are told. The order of a change is tested behind
-/// its key, and before its other cells.
+/// The tables, the number of regions, bytes behind a mark, and what these are told in each of the two
+/// formats. The order of a change is tested behind its key, and before its other cells. A hidden table is
+/// that of the number 64.
 const TOLD: &str = "\
-numbers 1 GGB1 0 #1 #1 #0 #1 0 1 @1 @10 => fits
-numbers 1 GGB1 0 #1 #0 => fits
-numbers 1 72 71 66 49 0 #1 #0 => BadTag(0)
-numbers 1 GGB1 1 #1 #0 => BadTag(4)
-numbers 8 GGB1 7 #1 #0 => fits
-numbers 8 GGB1 8 #1 #0 => BadTag(4)
-numbers 1 GGB1 0 #0 #0 => BadTag(5)
-numbers 1 GGB1 0 #4294967293 #0 => fits
-numbers 1 GGB1 0 #4294967294 #0 => BadTag(5)
-numbers 1 GGB1 0 #1 #4096 => Short(13)
-numbers 1 GGB1 0 #1 #4097 => OverLimit(9, Candidates)
-numbers 1 GGB1 0 #1 #1 #1 #1 0 2 @1 => BadStart(13)
-numbers 1 GGB1 0 #64 #1 #0 #1 0 2 @1 => fits
-numbers 1 GGB1 0 #65 #1 #0 #1 0 2 @1 => BadStart(13)
-numbers 1 GGB1 0 #65 #1 #1 #1 0 2 @1 => fits
-numbers 1 GGB1 0 #1 #1 #0 #0 => OverLimit(17, Rows)
-numbers 1 GGB1 0 #1 #1 #0 #1024 => Short(21)
-numbers 1 GGB1 0 #1 #1 #0 #1025 => OverLimit(17, Rows)
-numbers 1 GGB1 0 #1 #1 #0 #1 1 1 @1 @10 => BadRow(21)
-numbers 1 GGB1 0 #1 #1 #0 #1 0 0 @1 @10 => BadTag(22)
-numbers 1 GGB1 0 #1 #1 #0 #1 0 3 @1 @10 => BadTag(22)
-numbers 1 GGB1 0 #1 #1 #0 #1 0 1 0 @10 => BadRow(23)
-numbers 1 GGB1 0 #1 #1 #0 #1 0 1 3 @10 => BadRow(23)
-numbers 1 GGB1 0 #1 #1 #0 #1 0 1 5 @10 => BadTag(23)
-numbers 1 GGB1 0 #1 #1 #0 #1 0 1 @1 0 => fits
-numbers 1 GGB1 0 #1 #1 #0 #1 0 1 @1 0 10 => Trailing(33)
-numbers 1 GGB1 0 #1 #1 #0 #1 0 1 @1 2 0 1 97 => BadRow(32)
-numbers 1 GGB1 0 #1 #1 #0 #1 0 1 @1 2 0 1 255 => BadUtf8(35)
-numbers 1 GGB1 0 #1 #1 #0 #2 0 2 @1 0 2 @2 => fits
-numbers 1 GGB1 0 #1 #1 #0 #2 0 2 @1 0 2 @1 => NotOrdered(32)
-numbers 1 GGB1 0 #1 #1 #0 #2 0 2 @2 0 2 @1 => NotOrdered(32)
-numbers 1 GGB1 0 #1 #1 #0 #1 0 2 0 => BadRow(23)
-numbers 1 GGB1 0 #1 #2 #0 #1 0 2 @1 #1 => BadStart(32)
-texts 1 GGB1 0 #1 #1 #0 #1 0 1 @1 2 0 1 97 => fits
-texts 1 GGB1 0 #1 #1 #0 #1 0 1 @1 2 0 1 255 => BadUtf8(35)
-texts 1 GGB1 0 #1 #1 #0 #1 0 1 @1 2 4 1 => OverLimit(33, TextBytes)
-narrow 1 GGB1 0 #1 #1 #0 #1 0 1 @1 @10 2 0 8 97 97 97 97 97 97 97 97 => fits
-narrow 1 GGB1 0 #1 #1 #0 #1 0 1 @1 @10 2 0 9 97 97 97 97 97 97 97 97 97 => BadRow(41)
-narrow 1 GGB1 0 #1 #1 #0 #1 0 1 @1 @10 0 => fits
-narrow 1 GGB1 0 #1 #1 #0 #1 0 1 @1 0 0 => BadRow(32)
-two 1 GGB1 0 #1 #1 #0 #2 0 2 @1 1 2 @1 2 0 1 97 => fits
-two 1 GGB1 0 #1 #1 #0 #2 1 2 @1 2 0 1 97 0 2 @1 => NotOrdered(36)
-two 1 GGB1 0 #1 #1 #0 #2 1 2 @1 2 0 1 97 0 2 0 => BadRow(38)
-two 1 GGB1 0 #1 #1 #0 #2 1 2 @1 2 0 1 97 0 1 @1 5 => NotOrdered(36)";
+numbers 1 0 #1 #1 #0 #1 0 1 @1 @10 => fits
+numbers 1 0 #1 #0 => fits
+numbers 1 1 #1 #0 => BadTag(4)
+numbers 8 7 #1 #0 => fits
+numbers 8 8 #1 #0 => BadTag(4)
+numbers 1 0 #0 #0 => BadTag(5)
+numbers 1 0 #4294967293 #0 => fits
+numbers 1 0 #4294967294 #0 => BadTag(5)
+numbers 1 0 #1 #4096 => Short(13)
+numbers 1 0 #1 #4097 => OverLimit(9, Candidates)
+numbers 1 0 #1 #1 #1 #1 0 2 @1 => BadStart(13)
+numbers 1 0 #64 #1 #0 #1 0 2 @1 => fits
+numbers 1 0 #65 #1 #0 #1 0 2 @1 => BadStart(13)
+numbers 1 0 #65 #1 #1 #1 0 2 @1 => fits
+numbers 1 0 #1 #1 #0 #0 => OverLimit(17, Rows)
+numbers 1 0 #1 #1 #0 #1024 => Short(21)
+numbers 1 0 #1 #1 #0 #1025 => OverLimit(17, Rows)
+numbers 1 0 #1 #1 #0 #1 1 1 @1 @10 => BadRow(21)
+numbers 1 0 #1 #1 #0 #1 0 0 @1 @10 => BadTag(22)
+numbers 1 0 #1 #1 #0 #1 0 1 0 @10 => BadRow(23)
+numbers 1 0 #1 #1 #0 #1 0 1 3 @10 => BadRow(23)
+numbers 1 0 #1 #1 #0 #1 0 1 5 @10 => BadTag(23)
+numbers 1 0 #1 #1 #0 #1 0 1 @1 0 => fits
+numbers 1 0 #1 #1 #0 #1 0 1 @1 0 10 => Trailing(33)
+numbers 1 0 #1 #1 #0 #1 0 1 @1 2 0 1 97 => BadRow(32)
+numbers 1 0 #1 #1 #0 #1 0 1 @1 2 0 1 255 => BadUtf8(35)
+numbers 1 0 #1 #1 #0 #2 0 2 @1 0 2 @2 => fits
+numbers 1 0 #1 #1 #0 #2 0 2 @1 0 2 @1 => NotOrdered(32)
+numbers 1 0 #1 #1 #0 #2 0 2 @2 0 2 @1 => NotOrdered(32)
+numbers 1 0 #1 #1 #0 #1 0 2 0 => BadRow(23)
+numbers 1 0 #1 #2 #0 #1 0 2 @1 #1 => BadStart(32)
+texts 1 0 #1 #1 #0 #1 0 1 @1 2 0 1 97 => fits
+texts 1 0 #1 #1 #0 #1 0 1 @1 2 0 1 255 => BadUtf8(35)
+texts 1 0 #1 #1 #0 #1 0 1 @1 2 4 1 => OverLimit(33, TextBytes)
+narrow 1 0 #1 #1 #0 #1 0 1 @1 @10 2 0 8 97 97 97 97 97 97 97 97 => fits
+narrow 1 0 #1 #1 #0 #1 0 1 @1 @10 2 0 9 97 97 97 97 97 97 97 97 97 => BadRow(41)
+narrow 1 0 #1 #1 #0 #1 0 1 @1 @10 0 => fits
+narrow 1 0 #1 #1 #0 #1 0 1 @1 0 0 => BadRow(32)
+two 1 0 #1 #1 #0 #2 0 2 @1 1 2 @1 2 0 1 97 => fits
+two 1 0 #1 #1 #0 #2 1 2 @1 2 0 1 97 0 2 @1 => NotOrdered(36)
+two 1 0 #1 #1 #0 #2 1 2 @1 2 0 1 97 0 2 0 => BadRow(38)
+two 1 0 #1 #1 #0 #2 1 2 @1 2 0 1 97 0 1 @1 5 => NotOrdered(36)
+unique 1 0 #1 #1 #0 #1 64 1 2 0 1 97 @1 => fits
+unique 1 0 #1 #1 #0 #1 64 2 2 0 1 97 => fits
+unique 1 0 #1 #1 #0 #1 64 1 0 @1 => BadRow(23)
+unique 1 0 #1 #1 #0 #1 64 1 2 0 1 97 0 => BadRow(27)
+unique 1 0 #1 #1 #0 #1 64 1 2 0 9 97 97 97 97 97 97 97 97 97 @1 => BadRow(23)
+unique 1 0 #1 #1 #0 #1 65 1 2 0 1 97 @1 => BadRow(21)
+unique 1 0 #1 #1 #0 #1 1 2 @1 => BadRow(21)
+unique 1 0 #1 #1 #0 #2 0 2 @1 64 2 2 0 1 97 => fits
+unique 1 0 #1 #1 #0 #2 64 2 2 0 1 97 0 2 @1 => NotOrdered(27)";
 
-fn is_told(alloc: Global, line: &str) -> Result<bool, Fail> {
+/// Whether the bytes of the line, behind the mark, are told what the line says.
+fn is_told(alloc: Global, mark: &str, line: &str) -> Result<bool, Fail> {
     let (bytes, want) = line.split_once(" => ").ok_or("a line without an answer")?;
     let (tables, bytes) = bytes.split_once(' ').ok_or("a line without tables")?;
     let (regions, words) = bytes.split_once(' ').ok_or("a line without regions")?;
-    let told = told(alloc, tables, regions.parse()?, words)?;
+    let words = format!(in alloc; "{mark} {words}")?;
+    let told = told(alloc, tables, regions.parse()?, &words)?;
     is_answer(alloc, told, want)
 }
 
 #[test]
 fn bytes_of_batches_are_told(rt: HostRuntime) -> Result<(), Fail> {
-    for line in TOLD.lines() {
-        assert!(rt; is_told(rt.alloc(), line)?, "{line}");
+    for mark in ["GGB1", "GGB2"] {
+        for line in TOLD.lines() {
+            assert!(rt; is_told(rt.alloc(), mark, line)?, "{mark} {line}");
+        }
     }
     Ok(())
 }
 
-/// What a batch of so many candidates is told.
+/// The same where the format matters: GGB1 has no touches.
+const TOLD_OF_FORMATS: &str = "\
+numbers 1 72 71 66 50 0 #1 #0 => BadTag(0)
+numbers 1 71 71 66 48 0 #1 #0 => BadTag(0)
+numbers 1 71 71 66 51 0 #1 #0 => BadTag(0)
+numbers 1 71 71 66 => Short(3)
+numbers 1 GGB1 0 #1 #1 #0 #1 0 3 @1 => BadTag(22)
+numbers 1 GGB2 0 #1 #1 #0 #1 0 3 @1 => fits
+numbers 1 GGB1 0 #1 #1 #0 #1 0 4 @1 => BadTag(22)
+numbers 1 GGB2 0 #1 #1 #0 #1 0 4 @1 => BadTag(22)
+numbers 1 GGB1 0 #1 #1 #0 #2 0 2 @1 0 3 @1 => BadTag(33)
+numbers 1 GGB2 0 #1 #1 #0 #2 0 2 @1 0 3 @1 => NotOrdered(32)
+numbers 1 GGB2 0 #1 #1 #0 #2 0 3 @1 0 2 @2 => fits
+numbers 1 GGB2 0 #1 #1 #0 #2 0 3 @2 0 3 @1 => NotOrdered(32)
+numbers 1 GGB1 0 #1 #1 #0 #1 1 3 @1 => BadRow(21)
+numbers 1 GGB2 0 #1 #1 #0 #1 1 3 @1 => BadRow(21)
+numbers 1 GGB1 0 #1 #1 #0 #1 0 3 0 => BadTag(22)
+numbers 1 GGB2 0 #1 #1 #0 #1 0 3 0 => BadRow(23)
+numbers 1 GGB2 0 #1 #1 #0 #1 0 3 5 => BadTag(23)
+numbers 1 GGB2 0 #1 #1 #0 #1 0 3 @1 @10 => Trailing(32)
+numbers 1 GGB1 0 #1 #1 #0 #1 0 3 => BadTag(22)
+numbers 1 GGB2 0 #1 #1 #0 #1 0 3 => Short(23)
+numbers 1 GGB2 0 #1 #1 #0 #1 0 3 1 0 0 => Short(26)
+two 1 GGB2 0 #1 #1 #0 #1 1 3 @1 2 0 1 97 => fits
+two 1 GGB2 0 #1 #1 #0 #1 1 3 @1 2 0 1 255 => BadUtf8(35)
+two 1 GGB2 0 #1 #1 #0 #1 1 3 @1 2 4 1 => OverLimit(33, TextBytes)
+unique 1 GGB1 0 #1 #1 #0 #1 64 3 2 0 1 97 => BadTag(22)
+unique 1 GGB2 0 #1 #1 #0 #1 64 3 2 0 1 97 => fits
+unique 1 GGB2 0 #1 #1 #0 #1 64 3 0 => BadRow(23)";
+
+#[test]
+fn touches_are_told_of_by_format(rt: HostRuntime) -> Result<(), Fail> {
+    for line in TOLD_OF_FORMATS.lines() {
+        assert!(rt; is_told(rt.alloc(), "", line)?, "{line}");
+    }
+    Ok(())
+}
+
+/// What a batch of so many candidates is told, each of which touches a row.
 fn told_of_many(alloc: Global, count: usize) -> Result<Option<CodecFault>, Fail> {
-    let candidates = " #0 #1 0 2 @1".repeat(alloc, count)?;
-    let words = format!(in alloc; "GGB1 0 #1 #{count}{}", candidates.as_str())?;
+    let candidates = " #0 #1 0 3 @1".repeat(alloc, count)?;
+    let words = format!(in alloc; "GGB2 0 #1 #{count}{}", candidates.as_str())?;
     told(alloc, "numbers", 1, &words)
 }
 
@@ -171,10 +210,10 @@ fn a_longer_batch_has_a_byte_behind_it(rt: HostRuntime) -> Result<(), Fail> {
     Ok(())
 }
 
-/// Whether the batch that is read, if it is one, is spelled by these bytes.
+/// Whether the batch that is read, if it is one, is spelled by these bytes, in GGB2.
 fn is_read_as_it_is(alloc: Global, schema: &Schema, bytes: &[u8]) -> Result<bool, Fail> {
     match read_batch(alloc, schema, 8, bytes) {
-        Ok(batch) => Ok(batch_bytes(alloc, schema, &batch)?.as_slice() == bytes),
+        Ok(batch) => Ok(batch_bytes(alloc, schema, &batch)? == marked(alloc, bytes, b'2')?),
         Err(fault) => Ok(fault != CodecFault::NoMemory),
     }
 }

@@ -1,5 +1,5 @@
 //! Bytes as words: a number is one byte, `#` begins a number of four bytes, `@` the cell of a number, and
-//! `GGB1` is what a batch begins with.
+//! `GGB1` or `GGB2` is what a batch begins with.
 use std::alloc::Global;
 use std::test::Fail;
 
@@ -23,8 +23,8 @@ fn add_word(out: &mut Vec<u8>, word: &str) -> Result<(), Fail> {
     if let Some(digits) = word.strip_prefix('@') {
         return add_cell(out, digits);
     }
-    if word == "GGB1" {
-        out.extend_from_slice(b"GGB1")?;
+    if word.starts_with("GGB") {
+        out.extend_from_slice(word.as_bytes())?;
     } else {
         out.push(word.parse()?)?;
     }
@@ -38,4 +38,13 @@ pub fn bytes_of(alloc: Global, words: &str) -> Result<Vec<u8>, Fail> {
         add_word(&mut out, word)?;
     }
     Ok(out)
+}
+
+/// The bytes of a batch with this digit as the last letter of its mark.
+pub fn marked(alloc: Global, bytes: &[u8], digit: u8) -> Result<Vec<u8>, Fail> {
+    let mut bytes = Vec::from_slice(alloc, bytes)?;
+    if bytes.len() > 3 {
+        bytes[3] = digit;
+    }
+    Ok(bytes)
 }

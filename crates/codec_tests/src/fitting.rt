@@ -2,7 +2,7 @@
 ghost use Rattle.std.specs.Prelude.{◌≡◌, ◌+◌, ◌<◌, ◌≤◌, IsTrue, length, slice_index};
 ghost use Rattle.std.specs.List.{All};
 ghost use Rattle.write_set.specs.Journal.{IsBatch, IsCandidate};
-ghost use Rattle.geo_schema.specs.Schemas.{table_at};
+ghost use Rattle.geo_schema.specs.Schemas.{IsTableNo, table_at};
 ghost use Rattle.set_codec.specs.Rules.{IsRegionOf, IsSealable};
 ghost use Rattle.set_codec.specs.Fits.{AreTaken, FitsKey, FitsChange, FitsTable, FitsTables, FitsSchema};
 
@@ -39,7 +39,7 @@ fn fits_key(table: &TableDef, key: &Key) -> bool
 
 // Whether what is put is a row of the table with the key.
 fn fits_change(alloc: Global, schema: &Schema, row: &RowId, change: &Change) -> bool
-    requires { row.now.table < length schema.now }
+    requires { IsTableNo schema.now row.now.table }
     ensures { IsTrue result → FitsChange (table_at schema.now row.now.table) row.now.key change.now }
 {
     equal_values_are_one();
@@ -53,23 +53,17 @@ fn fits_change(alloc: Global, schema: &Schema, row: &RowId, change: &Change) -> 
                 Err(_) => false,
             }
         }
-        Change::Remove => true,
+        Change::Remove | Change::Touch => true,
     }
-}
-
-fn table_of<'a>(schema: &'a Schema, row: &RowId) -> &'a TableDef
-    requires { row.now.table < length schema.now }
-    ensures { result.now ≡ table_at schema.entry.now row.now.table }
-{
-    schema.table(row.table).unwrap()
 }
 
 fn fits_table(alloc: Global, schema: &Schema, row: &RowId, change: &Change) -> bool
     ensures { IsTrue result → FitsTable schema.now (row.now, change.now) }
 {
-    row.table < schema.count()
-        && fits_key(table_of(schema, row), &row.key)
-        && fits_change(alloc, schema, row, change)
+    match schema.table(row.table) {
+        Some(table) => fits_key(table, &row.key) && fits_change(alloc, schema, row, change),
+        None => false,
+    }
 }
 
 fn changes_fit(alloc: Global, schema: &Schema, changes: &[(RowId, Change)]) -> bool

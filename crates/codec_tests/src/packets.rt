@@ -1,15 +1,11 @@
 //! Packets as bytes: spellings, faults with their places, and the limit of a batch's bytes.
 use crate::bytes::bytes_of;
 use crate::printing::is_answer;
-use crate::tables::schema_of;
+use crate::tables::schema_named;
 use geo_base::RegionNo;
 use set_codec::{CodecFault, Limit, Packet, packet_bytes, read_batch, read_packet};
 use std::alloc::Global;
 use std::test::Fail;
-
-const NUMBERS: &str = "table acc (id INT KEY, amount INT)";
-
-const TEXTS: &str = "table acc (id INT KEY, amount TEXT)";
 
 fn is_fetch_spelled(
     alloc: Global,
@@ -25,7 +21,7 @@ fn is_fetch_spelled(
 
 /// Whether the packet is read and spelled as it stands.
 fn is_read_as_it_is(alloc: Global, words: &str) -> Result<bool, Fail> {
-    let schema = schema_of(alloc, NUMBERS)?;
+    let schema = schema_named(alloc, "numbers")?;
     let bytes = bytes_of(alloc, words)?;
     let packet = read_packet(alloc, &schema, 2, &bytes)?;
     Ok(packet_bytes(alloc, &packet)?.as_slice() == bytes.as_slice())
@@ -36,13 +32,14 @@ fn packets_have_their_spellings(rt: HostRuntime) -> Result<(), Fail> {
     let alloc = rt.alloc();
     let asked = is_fetch_spelled(alloc, 1, 0, "2 1 0 0 0 0 1")?;
     let asks = is_read_as_it_is(alloc, "2 1 0 0 0 0 1")?;
-    let carries = is_read_as_it_is(alloc, "1 1 GGB1 0 #1 #1 #0 #1 0 1 @1 @10")?;
-    assert_eq!(rt; (asked, asks, carries), (true, true, true));
+    let older = is_read_as_it_is(alloc, "1 1 GGB1 0 #1 #1 #0 #1 0 1 @1 @10")?;
+    let newer = is_read_as_it_is(alloc, "1 1 GGB2 0 #1 #1 #0 #1 0 3 @1")?;
+    assert_eq!(rt; (asked, asks, older, newer), (true, true, true, true));
     Ok(())
 }
 
 fn told(alloc: Global, regions: u8, words: &str) -> Result<Option<CodecFault>, Fail> {
-    let schema = schema_of(alloc, NUMBERS)?;
+    let schema = schema_named(alloc, "numbers")?;
     let bytes = bytes_of(alloc, words)?;
     Ok(read_packet(alloc, &schema, regions, &bytes).err())
 }
@@ -70,7 +67,14 @@ const TOLD: &str = "\
 8 1 7 GGB1 0 #1 #0 => fits
 8 1 8 GGB1 0 #1 #0 => BadTag(1)
 2 1 0 GGB1 0 0 => BadTag(1)
-2 1 0 71 71 66 50 0 0 => BadTag(2)
+2 1 0 71 71 66 48 0 0 => BadTag(2)
+2 1 0 71 71 66 51 0 0 => BadTag(2)
+2 1 1 GGB2 0 #1 #0 => fits
+2 1 0 GGB2 0 0 => BadTag(1)
+2 1 1 GGB2 2 0 => BadTag(6)
+2 1 1 GGB2 0 #1 #1 #0 #1 0 3 @1 => fits
+2 1 1 GGB1 0 #1 #1 #0 #1 0 3 @1 => BadTag(24)
+2 1 1 GGB2 0 #1 #1 #0 #1 0 4 @1 => BadTag(24)
 2 1 1 GGB1 2 0 => BadTag(6)
 8 1 0 GGB1 7 #1 #0 => fits
 8 1 0 GGB1 8 #1 #0 => BadTag(6)
@@ -117,8 +121,8 @@ fn add_candidate(out: &mut Vec<u8>, alloc: Global, rows: u32, first: usize) -> R
 }
 
 fn told_of_set(alloc: Global, rows: u32, first: usize) -> Result<Option<CodecFault>, Fail> {
-    let schema = schema_of(alloc, TEXTS)?;
-    let mut bytes = bytes_of(alloc, "GGB1 0 #1 #1")?;
+    let schema = schema_named(alloc, "texts")?;
+    let mut bytes = bytes_of(alloc, "GGB2 0 #1 #1")?;
     add_candidate(&mut bytes, alloc, rows, first)?;
     Ok(read_batch(alloc, &schema, 1, &bytes).err())
 }
@@ -159,7 +163,7 @@ fn told_of_long(
     front: &str,
     last: usize,
 ) -> Result<(Option<CodecFault>, Option<CodecFault>), Fail> {
-    let schema = schema_of(alloc, TEXTS)?;
+    let schema = schema_named(alloc, "texts")?;
     let bytes = long_bytes(alloc, front, last)?;
     let batch = read_batch(alloc, &schema, 2, &bytes).err();
     Ok((batch, read_packet(alloc, &schema, 2, &bytes).err()))

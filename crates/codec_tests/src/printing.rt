@@ -16,13 +16,14 @@ fn add_changes(out: &mut String, set: &WriteSet) -> Result<(), Fail> {
                 print_row(out, image.cells())?;
             }
             Change::Remove => out.push_str(" removed")?,
+            Change::Touch => out.push_str(" touched")?,
         }
     }
     Ok(())
 }
 
 /// The batch, with a line for each candidate: its start, and each change behind `; `, as `0(7) -> (7, NULL)`
-/// or `0(7) removed`, where 0 is the table.
+/// or `0(7) removed` or `0(7) touched`, where 0 is the table.
 pub fn batch_text(alloc: Global, batch: &Batch) -> Result<String, Fail> {
     let mut out = format!(in alloc; "region {} epoch {}", batch.region, batch.epoch)?;
     for candidate in batch.items.items() {
