@@ -37,7 +37,7 @@ const NOTE: usize = 40;
 const OTHERS: usize = 2;
 
 fn make() -> Vec<u8> {
-    let mut out = b"GGB1".to_vec();
+    let mut out = b"GGB2".to_vec();
     out.push(0);
     out.extend(1u32.to_be_bytes());
     out.extend(CANDIDATES.to_be_bytes());
@@ -138,7 +138,7 @@ fn write_cell(out: &mut Vec<u8>, cell: &Cell) {
 }
 
 fn write(batch: &Batch) -> Vec<u8> {
-    let mut out = b"GGB1".to_vec();
+    let mut out = b"GGB2".to_vec();
     out.push(batch.region);
     out.extend(batch.epoch.to_be_bytes());
     out.extend((batch.items.len() as u32).to_be_bytes());

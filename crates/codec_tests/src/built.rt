@@ -207,9 +207,8 @@ fn built_batches_have_their_spellings(rt: HostRuntime) -> Result<(), Fail> {
     Ok(())
 }
 
-/// Batches of which each has a candidate of one row, the formats that they are read in, their bytes in GGB2,
-/// and how many these are.
-const WORKED: [(Built<'static>, &str, &str, usize); 2] = [
+/// Batches, the formats that they are read in, their bytes in GGB2, and how many these are.
+const WORKED: [(Built<'static>, &str, &str, usize); 4] = [
     (
         (0, 1, &[(0, "0 1 -> 1 10")]),
         "12",
@@ -222,6 +221,13 @@ const WORKED: [(Built<'static>, &str, &str, usize); 2] = [
         "4747423200000000020000000100000001000000010003010000000000000001",
         32,
     ),
+    (
+        (0, 2, &[(1, "0 1 touched"), (1, "0 1 -> 1 20")]),
+        "2",
+        "474742320000000002000000020000000100000001000301000000000000000100000001000000010001010000000000000001010000000000000014",
+        60,
+    ),
+    ((0, 2, &[]), "12", "47474232000000000200000000", 13),
 ];
 
 fn is_worked(
@@ -253,8 +259,8 @@ fn told(alloc: Global, digits: &str) -> Result<Option<CodecFault>, Fail> {
     Ok(read_batch(alloc, &schema, 1, &bytes).err())
 }
 
-/// In GGB1 the first 13 bytes of the one, it with a byte behind it, and its head with the removals of the rows
-/// 2 and 1; and the other one, which touches a row, so that it is in GGB2 alone.
+/// In GGB1 the first 13 bytes of the first batch; all of them and one more; its head with removals of the rows
+/// 2 and 1, in this order; and the second batch, whose touch GGB1 hasn't.
 #[test]
 fn what_is_near_the_worked_batches_is_at_fault(rt: HostRuntime) -> Result<(), Fail> {
     for (digits, fault) in [

@@ -10,13 +10,15 @@ use Rattle.geo_schema.specs.declared.index.IndexDef.{IndexDef}
 use Rattle.geo_schema.specs.declared.table.TableDef.{TableDef}
 use Rattle.geo_schema.specs.Repeats.{AreApart}
 
--- two columns, two indexes or two tables have one name
+-- two columns have one name
 abbrev pub same_column : ColumnDef → ColumnDef → Bool
 same_column a b = text_eq a.name b.name
 
+-- two indexes have one name
 abbrev pub same_index : IndexDef → IndexDef → Bool
 same_index a b = text_eq a.name b.name
 
+-- two tables have one name
 abbrev pub same_table : TableDef → TableDef → Bool
 same_table a b = text_eq a.name b.name
 
@@ -65,10 +67,11 @@ pub record IsTable (table : TableDef) : Type 0 where
   pub indexes : All (IsIndex (length table.columns)) table.indexes
   pub indexes_apart : AreApart same_index table.indexes
 
--- a table and a column with nothing, which stand for those past the last one
+-- a table with nothing, which stands for those past the last one
 abbrev pub no_table : TableDef
 no_table = record { name = []; columns = []; key = []; indexes = [] }
 
+-- a column with nothing, which stands for those past the last one
 abbrev pub no_column : ColumnDef
 no_column = record { name = []; kind = kind.Int; not_null = false }
 

@@ -5,6 +5,7 @@ use Rattle.set_codec.specs.declared.fault.CodecFault.{CodecFault}
 use Rattle.set_codec.specs.declared.fault.CodecFault.TheVariants.{Short, BadTag, BadUtf8, OverLimit, NoMemory}
 use Rattle.set_codec.specs.declared.fault.Limit.TheVariants as limit
 
+-- the fault of a batch that a cell's fault is, at the same place
 abbrev pub fault_of : CellReadFault → CodecFault
 fault_of (of_cell.Short at) = Short at
 fault_of (of_cell.BadTag at) = BadTag at

@@ -20,15 +20,17 @@ use Rattle.set_codec.specs.declared.format.Format.{Format}
 use Rattle.set_codec.specs.declared.kind.Kind.{Kind}
 use Rattle.set_codec.specs.declared.kind.Kind.TheVariants as kind
 use Rattle.set_codec.specs.CellFaults.{fault_of}
-use Rattle.set_codec.specs.Rules.{IsMark, IsRegionOf, IsOther, IsSealable, IsBatchSize, IsEnd, IsTableOf, IsKind, IsAfter, IsTaken, IsPacketKind}
+use Rattle.set_codec.specs.Rules.{IsMark, IsRegionOf, IsOther, IsSealable, IsBatchSize, IsEnd, IsTableOf, IsKindByte, IsAfter, IsTaken, IsPacketKind}
 use Rattle.set_codec.specs.Spelling.{changes_spelling}
 use Rattle.set_codec.specs.Standing.{MarkStands, RegionStands, OtherStands, EpochStands, CountStands, StartStands, RowsStand, TableStands, KindStands, KeyStands, RowStands, row_before, ChangesStand, CandidatesStand, BatchStands}
 
 -- ---- fields: each is cut off, or breaks its rule
 
+-- a byte is cut off, or breaks the rule, which is this fault
 abbrev pub IsByteFault : (ℕ → Type 0) → CodecFault → List ℕ → ℕ → CodecFault → Type 0
 IsByteFault Rule fault bytes at = Breaks (IsCut Short 1 bytes at) (ByteStands bytes at) Rule fault
 
+-- a number of 4 bytes is cut off, or breaks the rule, which is this fault
 abbrev pub IsNumberFault : (ℕ → Type 0) → CodecFault → List ℕ → ℕ → CodecFault → Type 0
 IsNumberFault Rule fault bytes at = Breaks (IsCut Short 4 bytes at) (NumberStands w32 bytes at) Rule fault
 
@@ -36,6 +38,7 @@ IsNumberFault Rule fault bytes at = Breaks (IsCut Short 4 bytes at) (NumberStand
 abbrev pub IsMarkFault : List ℕ → ℕ → CodecFault → Type 0
 IsMarkFault bytes at = Breaks (IsCut Short 4 bytes at) (FieldStands 4 bytes at) (λ field. (format : Format) × IsMark field format) (BadTag at)
 
+-- a number is that of no region
 abbrev pub IsRegionFault : ℕ → List ℕ → ℕ → CodecFault → Type 0
 IsRegionFault regions bytes at = IsByteFault (IsRegionOf regions) (BadTag at) bytes at
 
@@ -43,24 +46,29 @@ IsRegionFault regions bytes at = IsByteFault (IsRegionOf regions) (BadTag at) by
 abbrev pub IsOtherFault : ℕ → Option ℕ → ℕ → List ℕ → ℕ → CodecFault → Type 0
 IsOtherFault regions one blamed bytes at = Breaks (IsRegionFault regions bytes at) (RegionStands regions bytes at) (IsOther one) (BadTag blamed)
 
+-- an epoch can't be sealed
 abbrev pub IsEpochFault : List ℕ → ℕ → CodecFault → Type 0
 IsEpochFault bytes at = IsNumberFault IsSealable (BadTag at) bytes at
 
+-- there are too many candidates
 abbrev pub IsCountFault : List ℕ → ℕ → CodecFault → Type 0
 IsCountFault bytes at = IsNumberFault IsCandidateCount (OverLimit at limit.Candidates) bytes at
 
+-- a start isn't before the epoch, or too long before it
 abbrev pub IsStartFault : ℕ → List ℕ → ℕ → CodecFault → Type 0
 IsStartFault epoch bytes at = IsNumberFault (IsStartOf epoch) (BadStart at) bytes at
 
+-- there is no row, or there are too many
 abbrev pub IsRowsFault : List ℕ → ℕ → CodecFault → Type 0
 IsRowsFault bytes at = IsNumberFault IsRowCount (OverLimit at limit.Rows) bytes at
 
+-- a number is that of no table
 abbrev pub IsTableFault : Tables → List ℕ → ℕ → CodecFault → Type 0
 IsTableFault tables bytes at = IsByteFault (IsTableOf tables) (BadRow at) bytes at
 
--- so is the byte of a kind that the format hasn't
+-- a byte is that of no kind that the format has
 abbrev pub IsKindFault : Format → List ℕ → ℕ → CodecFault → Type 0
-IsKindFault format bytes at = IsByteFault (λ byte. (kind : Kind) × IsKind format byte kind) (BadTag at) bytes at
+IsKindFault format bytes at = IsByteFault (λ byte. (kind : Kind) × IsKindByte format byte kind) (BadTag at) bytes at
 
 -- more bytes follow
 abbrev pub IsTrailing : List ℕ → ℕ → CodecFault → Type 0
@@ -81,13 +89,13 @@ abbrev pub IsKeyFault : TableDef → List ℕ → ℕ → CodecFault → Type 0
 IsKeyFault table bytes at e = IsFaultOfThings (KeyStands table 0 bytes at) (λ front. IsTakenFault table (slice_index table.key (length front)) bytes) (length table.key) e
 
 -- of the row's cells the first ones are in order, and the next isn't one of the key and is at fault
-abbrev pub IsRowFault : TableDef → List Cell → List ℕ → ℕ → CodecFault → Type 0
-IsRowFault table key bytes at e =
+abbrev pub IsCellsFault : TableDef → List Cell → List ℕ → ℕ → CodecFault → Type 0
+IsCellsFault table key bytes at e =
     IsFaultOfThings (RowStands table key 0 bytes at) (λ front place e. (is_in table.key (length front) ≡ false) × IsTakenFault table (length front) bytes place e) (length table.columns) e
 
 -- what a kind wants behind the key is at fault
 abbrev pub IsDoneFault : TableDef → List Cell → Kind → List ℕ → ℕ → CodecFault → Type 0
-IsDoneFault table key kind.Put bytes at e = IsRowFault table key bytes at e
+IsDoneFault table key kind.Put bytes at e = IsCellsFault table key bytes at e
 IsDoneFault table key kind.Remove bytes at e = ⊥
 IsDoneFault table key kind.Touch bytes at e = ⊥
 

@@ -1,4 +1,4 @@
--- The rules of the format, each stated once; those of starts and of counts are in write_set: Bounds. What stands keeps them, and a fault is that one is broken.
+-- The rules of the formats, each stated once; those of starts and of counts are in write_set: Bounds. What stands keeps them, and a fault is that one is broken.
 use Rattle.std.specs.Prelude.{◌≡◌, ◌⊎◌, ℕ, ◌<◌, ◌≤◌, Bool, true, false, Option, Some, None, List, length, slice_index_or}
 use Rattle.std.specs.declared.cmp.Ordering.TheVariants as order
 use Rattle.geo_base.specs.declared.limits.TheConstants.{MAX_BATCH_BYTES, LAST_EPOCH}
@@ -60,8 +60,8 @@ has_kind format.Ggb1 kind.Touch = false
 has_kind format.Ggb2 kind = true
 
 -- the byte of a change is that of its kind, and the format has the kind
-abbrev pub IsKind : Format → ℕ → Kind → Type 0
-IsKind format byte kind = (byte ≡ kind_byte kind) × (has_kind format kind ≡ true)
+abbrev pub IsKindByte : Format → ℕ → Kind → Type 0
+IsKindByte format byte kind = (byte ≡ kind_byte kind) × (has_kind format kind ≡ true)
 
 -- a row is greater than the one before it, if there is one
 abbrev pub IsAfter : Option RowId → RowId → Type 0

@@ -1,9 +1,9 @@
 -- Sizes are counted without bytes, and are the lengths of spellings: a batch has as many bytes in one format as in the other.
-use Rattle.std.specs.Prelude.{◌≡◌, ℕ, List, length, min, sum_by, All}
+use Rattle.std.specs.Prelude.{◌≡◌, ℕ, List, length, min, All}
 use Rattle.geo_schema.specs.Schemas.{Tables, IsSchema}
 use Rattle.write_set.specs.declared.batch.Batch.{Batch}
 use Rattle.write_set.specs.Sets.{ChangeOfRow}
-use Rattle.write_set.specs.Sizes.{change_size, batch_size}
+use Rattle.write_set.specs.Sizes.{set_size, batch_size}
 use Rattle.set_codec.specs.declared.format.Format.{Format}
 use Rattle.set_codec.specs.declared.format.Format.TheVariants as format
 use Rattle.set_codec.specs.Fits.{FitsTable}
@@ -19,4 +19,4 @@ SizeIsLength = (format : Format) (tables : Tables) (batch : Batch) → IsSchema 
 
 -- the size of a set's changes is the number of bytes of their spellings, whatever schema they fit
 abbrev pub SetSizeIsLength : Type 0
-SetSizeIsLength = (tables : Tables) (changes : List ChangeOfRow) → IsSchema tables → All (FitsTable tables) changes → length (changes_spelling tables changes) ≡ sum_by change_size changes
+SetSizeIsLength = (tables : Tables) (changes : List ChangeOfRow) → IsSchema tables → All (FitsTable tables) changes → length (changes_spelling tables changes) ≡ set_size changes

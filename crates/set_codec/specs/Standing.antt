@@ -19,7 +19,7 @@ use Rattle.write_set.specs.Sets.{ChangeOfRow}
 use Rattle.set_codec.specs.declared.format.Format.{Format}
 use Rattle.set_codec.specs.declared.kind.Kind.{Kind}
 use Rattle.set_codec.specs.Fits.{AreTaken, FitsTable, FitsTables, HasCells, HaveCells, HasChange, HasChanges}
-use Rattle.set_codec.specs.Rules.{IsMark, IsRegionOf, IsOther, IsSealable, IsTableOf, IsKind, IsAfter, IsTaken}
+use Rattle.set_codec.specs.Rules.{IsMark, IsRegionOf, IsOther, IsSealable, IsTableOf, IsKindByte, IsAfter, IsTaken}
 use Rattle.set_codec.specs.Spelling.{other_cells, changes_spelling, candidates_spelling, batch_spelling}
 
 -- ---- fields
@@ -62,7 +62,7 @@ TableStands tables bytes at = Keeps (ByteStands bytes at) (IsTableOf tables)
 
 -- the kind whose byte stands there, one that the format has
 abbrev pub KindStands : Format → List ℕ → ℕ → Kind × ℕ → Type 0
-KindStands format bytes at = Names (ByteStands bytes at) (IsKind format)
+KindStands format bytes at = Names (ByteStands bytes at) (IsKindByte format)
 
 -- a cell that is taken by the column at the place
 abbrev pub TakenStands : TableDef → ℕ → List ℕ → ℕ → Cell × ℕ → Type 0

@@ -1,5 +1,5 @@
--- Snapshot isolation of a journal: transactions read the snapshot of their start, two that overlap never change one row, and no
--- row that one has, if only touched, is changed by another between its start and its end.
+-- Snapshot isolation of a journal: two transactions that overlap never change one row, and no row that one has, if only touched, is
+-- changed by another after its start and up to its epoch. What they read is said where they run.
 use Rattle.std.specs.Prelude.{◌≡◌, ◌⊎◌, ℕ, suc, ◌<◌, ◌≤◌, true, false, Contains}
 use Rattle.geo_base.specs.declared.row_id.RowId.{RowId}
 use Rattle.write_set.specs.declared.change.Change.{Change}

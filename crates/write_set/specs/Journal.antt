@@ -52,6 +52,7 @@ batches_at journal place = filter_map (λ log. slice_get log place) journal
 abbrev pub Epochs : Type 0
 Epochs = List (List Placed)
 
+-- the candidates of a journal's epochs, from the given one down to the first
 abbrev pub epochs_of : Journal → ℕ → Epochs
 epochs_of journal zero = []
 epochs_of journal (suc e) = candidates_of (batches_at journal e) ∷ epochs_of journal e

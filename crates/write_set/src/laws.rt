@@ -35,7 +35,7 @@ pub fn sealed_epochs_stay()
 {}
 
 /// The committed transactions of every journal are a snapshot-isolated history, in which no row that one of
-/// them has, if only touched, is changed by another between its start and its epoch.
+/// them has, if only touched, is changed by another after its start and up to its epoch.
 pub fn journals_are_isolated()
     ensures { (journal : Journal) → IsJournal journal → IsSnapshotIsolated journal }
 {}

@@ -1,7 +1,7 @@
 use crate::change::Change;
 use geo_base::RowId;
 
-/// What a transaction does to a row.
+/// What a transaction does to a row, and whether its snapshot has the row.
 #[derive(Debug, Drop)]
 pub struct RowChange {
     /// The row.

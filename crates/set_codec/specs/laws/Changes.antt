@@ -31,7 +31,7 @@ use Rattle.set_codec.specs.declared.fault.CodecFault.TheVariants.{NotOrdered}
 use Rattle.set_codec.specs.declared.format.Format.{Format}
 use Rattle.set_codec.specs.declared.kind.Kind.{Kind}
 use Rattle.set_codec.specs.declared.kind.Kind.TheVariants as kind
-use Rattle.set_codec.specs.Faults.{IsTableFault, IsKindFault, IsKeyFault, IsRowFault, IsDoneFault, IsChangeFault, IsChangesFault}
+use Rattle.set_codec.specs.Faults.{IsTableFault, IsKindFault, IsKeyFault, IsCellsFault, IsDoneFault, IsChangeFault, IsChangesFault}
 use Rattle.set_codec.specs.Fits.{FitsKey, FitsChange, FitsTable, HasCells, HasChange}
 use Rattle.set_codec.specs.Rules.{IsAfter}
 use Rattle.set_codec.specs.Spelling.{kind_of, kind_byte, cells_behind, change_spelling, changes_spelling}
@@ -118,8 +118,8 @@ module _ (bytes : List ℕ) (format : Format) (tables : Tables) (schema : IsSche
   unfolding done_at
   done_tells table row kind.Put at fits are =
       tells_as (AreBytes bytes) (λ y. (x : List Cell × ℕ) × ((length x.0 ≡ length table.columns) × RowStands table row.key 0 bytes at x) × (((row, Put x.0), x.1) ≡ y)) (DoneStands table row kind.Put at)
-      (λ e. FirstOrLater (IsRowFault table row.key bytes at e) (λ x. (length x.0 ≡ length table.columns) × RowStands table row.key 0 bytes at x) (λ _. ⊥)) (IsDoneFault table row.key kind.Put bytes at)
-      (tells_then (AreBytes bytes) (row_at table row.key bytes at) (λ image. Ok ((row, Put image.0), image.1)) (λ x. (length x.0 ≡ length table.columns) × RowStands table row.key 0 bytes at x) (IsRowFault table row.key bytes at)
+      (λ e. FirstOrLater (IsCellsFault table row.key bytes at e) (λ x. (length x.0 ≡ length table.columns) × RowStands table row.key 0 bytes at x) (λ _. ⊥)) (IsDoneFault table row.key kind.Put bytes at)
+      (tells_then (AreBytes bytes) (row_at table row.key bytes at) (λ image. Ok ((row, Put image.0), image.1)) (λ x. (length x.0 ≡ length table.columns) × RowStands table row.key 0 bytes at x) (IsCellsFault table row.key bytes at)
       (λ x y. ((row, Put x.0), x.1) ≡ y) (λ _ _. ⊥) (row_tells bytes table row.key at fits are) (λ x _. tells_done (AreBytes bytes) ((row, Put x.0), x.1)))
       (λ _ y s. subst (DoneStands table row kind.Put at) s.2 (refl, refl, s.1)) back
       (λ _ e h. elim h [ inl c ↦ c | inr c ↦ absurd c.2 ]) (λ e h. inl h)

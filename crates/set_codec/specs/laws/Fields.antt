@@ -27,7 +27,7 @@ use Rattle.set_codec.specs.declared.format.Format.TheVariants as format
 use Rattle.set_codec.specs.declared.kind.Kind.{Kind}
 use Rattle.set_codec.specs.declared.kind.Kind.TheVariants as kind
 use Rattle.set_codec.specs.Faults.{IsMarkFault, IsRegionFault, IsOtherFault, IsEpochFault, IsCountFault, IsStartFault, IsRowsFault, IsTableFault, IsKindFault, IsTrailing}
-use Rattle.set_codec.specs.Rules.{IsMark, IsRegionOf, IsOther, IsSealable, IsTableOf, has_kind, IsKind, IsEnd}
+use Rattle.set_codec.specs.Rules.{IsMark, IsRegionOf, IsOther, IsSealable, IsTableOf, has_kind, IsKindByte, IsEnd}
 use Rattle.set_codec.specs.Spelling.{mark}
 use Rattle.set_codec.specs.Standing.{Names, MarkStands, RegionStands, OtherStands, EpochStands, CountStands, StartStands, RowsStand, TableStands, KindStands}
 use Rattle.set_codec.specs.inner.Reading.{named_at, format_named, touch_in, kind_named, mark_at, region_at, is_other, other_at, epoch_at, count_at, start_at, rows_at, table_no_at, kind_at, end_at}
@@ -90,7 +90,7 @@ mark_found field = record { is = is; only = only }
     only format.Ggb2 e = rw e refl
 
 -- each byte is that of one kind, if the format has the kind
-kind_found : (format : Format) (byte : ℕ) → Finds (kind_named format byte) (IsKind format byte)
+kind_found : (format : Format) (byte : ℕ) → Finds (kind_named format byte) (IsKindByte format byte)
 kind_found of byte = record { is = is; only = only of }
   where
     puts : (f : Format) → has_kind f kind.Put ≡ true
@@ -101,15 +101,15 @@ kind_found of byte = record { is = is; only = only of }
     removes format.Ggb1 = refl
     removes format.Ggb2 = refl
 
-    touches : (f : Format) (x : Kind) → byte ≡ 3 → touch_in f ≡ Some x → IsKind f byte x
+    touches : (f : Format) (x : Kind) → byte ≡ 3 → touch_in f ≡ Some x → IsKindByte f byte x
     touches format.Ggb1 x h e = absurd (none-some x e)
-    touches format.Ggb2 x h e = subst (IsKind format.Ggb2 byte) (same_Some kind.Touch x e) (h, refl)
+    touches format.Ggb2 x h e = subst (IsKindByte format.Ggb2 byte) (same_Some kind.Touch x e) (h, refl)
 
-    is : (x : Kind) → kind_named of byte ≡ Some x → IsKind of byte x
+    is : (x : Kind) → kind_named of byte ≡ Some x → IsKindByte of byte x
     is x e = elim (chosen (eqb byte 1) _ _ _ e) [
-      | inl h ↦ subst (IsKind of byte) (same_Some kind.Put x h.1) (eqb-true byte 1 h.0, puts of)
+      | inl h ↦ subst (IsKindByte of byte) (same_Some kind.Put x h.1) (eqb-true byte 1 h.0, puts of)
       | inr h ↦ elim (chosen (eqb byte 2) _ _ _ h.1) [
-        | inl g ↦ subst (IsKind of byte) (same_Some kind.Remove x g.1) (eqb-true byte 2 g.0, removes of)
+        | inl g ↦ subst (IsKindByte of byte) (same_Some kind.Remove x g.1) (eqb-true byte 2 g.0, removes of)
         | inr g ↦ elim (chosen (eqb byte 3) _ _ _ g.1) [
           | inl d ↦ touches of x (eqb-true byte 3 d.0) d.1
           | inr d ↦ absurd (none-some x d.1)
@@ -117,7 +117,7 @@ kind_found of byte = record { is = is; only = only of }
       ]
     ]
 
-    only : (f : Format) (x : Kind) → IsKind f byte x → kind_named f byte ≡ Some x
+    only : (f : Format) (x : Kind) → IsKindByte f byte x → kind_named f byte ≡ Some x
     only f kind.Put h = rw h.0 refl
     only f kind.Remove h = rw h.0 refl
     only format.Ggb1 kind.Touch h = absurd (both_ways false refl h.1)
@@ -147,7 +147,7 @@ module _ (bytes : List ℕ) where
   pub kind_tells : (format : Format) (at : ℕ) → Tells (AreBytes bytes) (kind_at format bytes at) (KindStands format bytes at) (IsKindFault format bytes at)
   unfolding kind_at
   kind_tells format at =
-      names_tell (AreBytes bytes) (byte_at Short bytes at) (ByteStands bytes at) (IsCut Short 1 bytes at) (kind_named format) (IsKind format) (BadTag at) (byte_tells Short bytes at) (kind_found format)
+      names_tell (AreBytes bytes) (byte_at Short bytes at) (ByteStands bytes at) (IsCut Short 1 bytes at) (kind_named format) (IsKindByte format) (BadTag at) (byte_tells Short bytes at) (kind_found format)
 
   pub region_tells : (regions at : ℕ) → Tells (AreBytes bytes) (region_at regions bytes at) (RegionStands regions bytes at) (IsRegionFault regions bytes at)
   unfolding region_at

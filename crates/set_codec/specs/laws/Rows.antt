@@ -30,7 +30,7 @@ use Rattle.row_codec.specs.laws.Things.{IsList, IsBehind, things_tell}
 use Rattle.set_codec.specs.declared.fault.CodecFault.{CodecFault}
 use Rattle.set_codec.specs.declared.fault.CodecFault.TheVariants.{BadRow}
 use Rattle.set_codec.specs.CellFaults.{fault_of}
-use Rattle.set_codec.specs.Faults.{IsCellFault, IsTakenFault, IsKeyFault, IsRowFault}
+use Rattle.set_codec.specs.Faults.{IsCellFault, IsTakenFault, IsKeyFault, IsCellsFault}
 use Rattle.set_codec.specs.Fits.{AreTaken, FitsKey}
 use Rattle.set_codec.specs.Rules.{IsTaken}
 use Rattle.set_codec.specs.Spelling.{other_cells}
@@ -223,10 +223,10 @@ module _ (bytes : List ℕ) (table : TableDef) where
     );
   }
 
-  pub row_tells : (key : List Cell) (at : ℕ) → FitsKey table key → AreCells key → Tells (AreBytes bytes) (row_at table key bytes at) (λ x. (length x.0 ≡ length table.columns) × RowStands table key 0 bytes at x) (IsRowFault table key bytes at)
+  pub row_tells : (key : List Cell) (at : ℕ) → FitsKey table key → AreCells key → Tells (AreBytes bytes) (row_at table key bytes at) (λ x. (length x.0 ≡ length table.columns) × RowStands table key 0 bytes at x) (IsCellsFault table key bytes at)
   unfolding row_at
   row_tells key at fits are =
-      tells_as (AreBytes bytes) (λ x. (length x.0 ≡ length table.columns) × RowStands table key 0 bytes at x) (λ x. (length x.0 ≡ length table.columns) × RowStands table key 0 bytes at x) _ (IsRowFault table key bytes at)
+      tells_as (AreBytes bytes) (λ x. (length x.0 ≡ length table.columns) × RowStands table key 0 bytes at x) (λ x. (length x.0 ≡ length table.columns) × RowStands table key 0 bytes at x) _ (IsCellsFault table key bytes at)
       (things_tell (next_cell_at table key) (λ i _. i + 1) (λ i front. i + length front) bytes (AreBytes bytes) (RowCellStands key) RowCellFault (λ i. RowStands table key i bytes)
       (λ i place. row_cell_tells key i place fits are (place_in table.key i) refl) (row_list key) index_behind (length table.columns) 0 at)
       (λ _ x s. s) (λ x s. s)
