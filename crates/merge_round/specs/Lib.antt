@@ -1,0 +1,4 @@
+pub mod Rounds
+pub mod Seats
+pub mod Gathers
+pub mod inner

@@ -1,0 +1,3 @@
+-- Inner: words of this crate's own bodies and proofs, which no public clause needs.
+pub mod Entries
+pub mod Gathering
