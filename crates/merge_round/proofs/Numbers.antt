@@ -1,5 +1,5 @@
 -- The numbers of rows: each row that the candidates have has one of its own.
-use Rattle.std.proofs.Common.{◌≡◌, ◌⊎◌, inl, inr, ⊎_elim, ℕ, ◌+◌, ◌<◌, Bool, true, false, cond, Some, List, [], ◌∷◌, ◌++◌, length, Contains, refl, sym, ap, ◌∙◌, subst, arith}
+use Rattle.std.proofs.Common.{◌≡◌, ◌⊎◌, inl, inr, ⊎_elim, ℕ, suc, ◌+◌, ◌<◌, Bool, true, false, cond, not, Some, List, [], ◌∷◌, ◌++◌, length, Contains, refl, sym, ap, ◌∙◌, subst, arith}
 use Rattle.std.specs.List.{slice_get, flat_map, list_any}
 use Rattle.std.specs.Map.{keys_of}
 use Rattle.std.proofs.lemmas.Bool.{false≢true}
@@ -13,6 +13,9 @@ use Rattle.write_set.specs.laws.Among.{among_none, among_cases, any_found}
 use Rattle.write_set.specs.laws.Rivals.{row_same}
 use Rattle.merge_round.specs.Rounds.{rows_in, number_in}
 
+later_named : (x : RowId) (xs : List RowId) (k : ℕ) (row : RowId) → slice_get xs k ≡ Some row → slice_get (x ∷ xs) (1 + k) ≡ Some row
+later_named x xs k row h = let next : 1 + k ≡ suc k = omega arith in rw next h
+
 -- a row that is among the rows has a number
 pub number_named : (rows : List RowId) (row : RowId) → Contains rows row → (number_in rows row < length rows) × (slice_get rows (number_in rows row) ≡ Some row)
 number_named [] row h = absurd (among_none row h)
@@ -23,14 +26,14 @@ number_named (x ∷ xs) row h = by (row_eq row x) refl (among_cases x xs row h) 
     by true is cases rest = rw is (omega arith, ap Some (sym (row_same row x is)))
     by false is cases rest = ⊎_elim
         (λ same. absurd (false≢true (sym is ∙ (ap (row_eq row) same ∙ row_eq_equiv.refl row))))
-        (λ later. let tail = rest later in rw is (omega (arith, tail.0), tail.1)) cases
+        (λ later. let tail = rest later in rw is (omega (arith, tail.0), later_named x xs (number_in xs row) row tail.1)) cases
 
 -- and no other row has it
 pub number_same : (rows : List RowId) (r row : RowId) → Contains rows r → number_in rows r ≡ number_in rows row → r ≡ row
 number_same [] r row h e = absurd (among_none r h)
 number_same (x ∷ xs) r row h e = by (row_eq r x) (row_eq row x) refl refl e (among_cases x xs r h) (λ later same. number_same xs r row later same)
   where
-    by : (b c : Bool) → row_eq r x ≡ b → row_eq row x ≡ c → cond b 0 (1 + number_in xs r) ≡ cond c 0 (1 + number_in xs row) →
+    by : (b c : Bool) → row_eq r x ≡ b → row_eq row x ≡ c → cond (not b) (1 + number_in xs r) 0 ≡ cond (not c) (1 + number_in xs row) 0 →
         (x ≡ r) ⊎ Contains xs r → (Contains xs r → number_in xs r ≡ number_in xs row → r ≡ row) → r ≡ row
     by true true rx ox e cases rest = row_same r x rx ∙ sym (row_same row x ox)
     by true false rx ox e cases rest = absurd (omega (arith, e))

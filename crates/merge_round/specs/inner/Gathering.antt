@@ -1,5 +1,5 @@
 -- Inner: how the seats of a round are brought together.
-use Rattle.std.specs.Prelude.{◌≡◌, ℕ, ◌<◌, Option, None, Some, List, map, length, slice_index_or, sum_by}
+use Rattle.std.specs.Prelude.{◌≡◌, ℕ, ◌<◌, ◌≤◌, Option, None, Some, List, map, length, slice_index_or, sum_by}
 use Rattle.std.specs.Option.{option_or}
 use Rattle.geo_base.specs.declared.row_id.RowId.{RowId}
 use Rattle.geo_base.specs.declared.outcome.Outcome.{Outcome}
@@ -39,3 +39,9 @@ pub record IsWhole (seats : List WorkerSeat) (whole : WorkerSeat) : Type 0 where
   pub claimed : (x : ℕ) → times x (work_of whole).claiming.numbers ≡ sum_by (λ seat. times x (work_of seat).claiming.numbers) seats
   pub judged : (x : ℕ) → times x (work_of whole).judging.numbers ≡ sum_by (λ seat. times x (work_of seat).judging.numbers) seats
   pub apart : AreAllApart seats
+
+-- that is so for the places before this one, and the others are as they were
+pub record TakesOverTo (upto : ℕ) (old others new : List (Option Verdict)) : Type 0 where
+  pub long : length new ≡ length old
+  pub either : (number : ℕ) → number < upto → slice_index_or new number None ≡ option_or (slice_index_or old number None) (slice_index_or others number None)
+  pub kept : (number : ℕ) → upto ≤ number → slice_index_or new number None ≡ slice_index_or old number None
