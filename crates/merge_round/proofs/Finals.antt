@@ -134,7 +134,7 @@ module _ (last : RowId → ℕ) (all : List Placed) (claims : AreClaims all) whe
   of_all : (row : RowId) (d : Placed) → Contains (contenders last all row) d → Contains all d
   of_all row d h = (filtered_among (λ x. is_fresh last x && has_row row x.set) all d h).0
 
-  beaten_word : (c : Placed) (row : RowId) → Contains all c → is_beaten_on last all c row ≡ nat_lt (word_of (claim_of c)) (final_word last all row)
+  pub beaten_word : (c : Placed) (row : RowId) → Contains all c → is_beaten_on last all c row ≡ nat_lt (word_of (claim_of c)) (final_word last all row)
   beaten_word c row hc = by (is_beaten_on last all c row) refl
     where
       by : (b : Bool) → is_beaten_on last all c row ≡ b → b ≡ nat_lt (word_of (claim_of c)) (final_word last all row)
@@ -156,7 +156,7 @@ module _ (last : RowId → ℕ) (all : List Placed) (claims : AreClaims all) whe
               absurd (false≢true (lost ∙ grind (arith, nat_tests)))
 
   -- the winner has the final word
-  winner_word : (w : Placed) (row : RowId) → winner_of last all row ≡ Some w → final_word last all row ≡ word_of (claim_of w)
+  pub winner_word : (w : Placed) (row : RowId) → winner_of last all row ≡ Some w → final_word last all row ≡ word_of (claim_of w)
   winner_word w row is =
       let found = found_passes (λ d. not (is_beaten_on last all d row)) (contenders last all row) w is in
       let unbeaten = beaten_word w row (of_all row w found.0) in
@@ -166,7 +166,7 @@ module _ (last : RowId → ℕ) (all : List Placed) (claims : AreClaims all) whe
       grind (arith, nat_tests)
 
   -- where the row has no winner there is no contender, and no word
-  no_winner_word : (row : RowId) → winner_of last all row ≡ None → final_word last all row ≡ 0
+  pub no_winner_word : (row : RowId) → winner_of last all row ≡ None → final_word last all row ≡ 0
   no_winner_word row none = by (final_word last all row) refl
     where
       by : (n : ℕ) → final_word last all row ≡ n → n ≡ 0

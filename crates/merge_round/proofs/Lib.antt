@@ -1,2 +1,4 @@
 mod Numbers
 mod Finals
+mod Deciding
+mod Working

@@ -61,17 +61,30 @@ impl<C: Changes> MergeRound<C> {
         ensures seat { IsSeatOf (round_of self.now).table seat.new }
         ensures view { view_of seat.new ≡ piece_finished number (claims_made (piece_of (plan_of (round_of self.now)) number) (view_of seat.old)) }
     {
+        self.claim_all(seat, number);
+        self.table.finish(seat, number);
+    }
+
+    /// Makes all claims of the candidate.
+    fn claim_all(&self, seat: &mut ClaimSeat, number: u32)
+        requires seat { IsSeatOf (round_of self.now).table seat.old }
+        requires plan { (view_of seat.old).plan ≡ plan_of (round_of self.now) }
+        requires within { number < length (round_of self.now).all }
+        requires drawn { 0 < times number (view_of seat.old).pending }
+        ensures seat { IsSeatOf (round_of self.now).table seat.new }
+        ensures view { view_of seat.new ≡ claims_made (piece_of (plan_of (round_of self.now)) number) (view_of seat.old) }
+    {
         let entry = &self.entries[number as usize];
-        if self.first_changed(entry).is_none() {
-            claim_rows(
+        match self.first_changed(entry) {
+            Some(_) => {}
+            None => claim_rows(
                 &self.table,
                 seat,
                 number,
                 entry.rows.items(),
                 word_of(entry),
-            );
+            ),
         }
-        self.table.finish(seat, number);
     }
 
     /// The first of the candidate's rows that was changed after its start, and its last change. It asks for

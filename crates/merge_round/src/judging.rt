@@ -1,14 +1,15 @@
 //! Judging candidates.
-ghost use Rattle.std.specs.Prelude.{◌≡◌, ◌^◌, ◌<◌, ◌≤◌, true, Some, All, length};
+ghost use Rattle.std.specs.Prelude.{◌≡◌, ◌^◌, ◌<◌, ◌≤◌, true, None, Some, All, length};
 ghost use Rattle.geo_base.specs.declared.claim.Claim.{Claim};
 ghost use Rattle.geo_base.specs.Claims.{word_of, IsClaim};
 ghost use Rattle.claim_rule.specs.Plan.{final_of};
 ghost use Rattle.claim_rule.specs.Seats.{view_of, rows_of, IsSeatOf};
-ghost use Rattle.merge_round.specs.Rounds.{plan_of, verdict_on};
+ghost use Rattle.merge_round.specs.Rounds.{rows_in, plan_of, verdict_on};
 ghost use Rattle.merge_round.specs.Seats.{round_of, IsWorkerOf, Judges};
-ghost use Rattle.merge_round.specs.inner.Entries.{first_above};
+ghost use Rattle.merge_round.specs.inner.Entries.{first_above, last_at, IsEntry};
 
 use crate::claiming::word_of;
+use crate::numbering::Entry;
 use crate::round::MergeRound;
 use crate::seat::WorkerSeat;
 use crate::verdict::Verdict;
@@ -71,9 +72,23 @@ impl<C: Changes> MergeRound<C> {
         ensures verdict { Some result ≡ verdict_on (round_of self.now) number }
     {
         let entry = &self.entries[number as usize];
-        if let Some((row, last)) = self.first_changed(entry) {
-            return Verdict::Changed(row, last);
+        match self.first_changed(entry) {
+            Some((row, last)) => Verdict::Changed(row, last),
+            None => self.judge_unchanged(seat, number, entry),
         }
+    }
+
+    /// The verdict on the candidate, none of whose rows was changed after its start.
+    fn judge_unchanged(&self, seat: &mut ClaimSeat, _number: u32, entry: &Entry) -> Verdict
+        requires seat { IsSeatOf (round_of self.now).table seat.old }
+        requires plan { (view_of seat.old).plan ≡ plan_of (round_of self.now) }
+        requires stable { (view_of seat.old).stable ≡ true }
+        requires entry { IsEntry (round_of self.now).all _number entry.now }
+        requires unchanged { None ≡ first_above (last_at (round_of self.now).last (rows_in (round_of self.now).all)) entry.now.start entry.now.rows }
+        ensures seat { IsSeatOf (round_of self.now).table seat.new }
+        ensures view { view_of seat.new ≡ view_of seat.old }
+        ensures verdict { Some result ≡ verdict_on (round_of self.now) _number }
+    {
         match first_lost(&self.table, seat, entry.rows.items(), word_of(entry)) {
             Some((row, word)) => Verdict::Beaten(row, winner_of(self.input.epoch, word)),
             None => Verdict::Committed,

@@ -1,5 +1,5 @@
 -- Inner: what a round's fields hold of its candidates, and what a seat finds as it works on one.
-use Rattle.std.specs.Prelude.{◌≡◌, ℕ, ◌≤◌, nat_lt, Option, None, Some, unwrap_or, if◌then◌else◌, List, [], ◌∷◌, ◌++◌, map, length}
+use Rattle.std.specs.Prelude.{◌≡◌, ℕ, ◌≤◌, nat_lt, Option, None, Some, unwrap_or, if◌then◌else◌, List, [], ◌∷◌, ◌++◌, map, length, Contains}
 use Rattle.std.specs.List.{slice_get, flat_map}
 use Rattle.std.specs.Option.{option_map}
 use Rattle.std.specs.Map.{keys_of}
@@ -62,3 +62,10 @@ abbrev pub IsNamed : List RowId → Outcome → Type 0
 IsNamed rows outcome.Committed = Unit {0}
 IsNamed rows (outcome.Changed row epoch) = slice_get rows (number_in rows row) ≡ Some row
 IsNamed rows (outcome.Beaten row winner) = slice_get rows (number_in rows row) ≡ Some row
+
+-- the candidate with the number is what the entry is of
+pub record IsEntry (all : List Placed) (number : ℕ) (e : Entry) : Type 0 where
+  pub candidate : Placed
+  pub at : slice_get all number ≡ Some candidate
+  pub among : Contains all candidate
+  pub is : e ≡ entry_of (rows_in all) candidate
