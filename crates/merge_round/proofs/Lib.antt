@@ -2,3 +2,5 @@ mod Numbers
 mod Finals
 mod Deciding
 mod Working
+mod Growing
+mod Seating

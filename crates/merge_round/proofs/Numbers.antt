@@ -69,7 +69,7 @@ inserted_has (x ∷ xs) ks row h = ⊎_elim
     (λ later. inserted_has xs (insert_key row_eq ks x) row later)
     (among_cases x xs row h)
 
-all_rows : (all : List Placed) (c : Placed) (row : RowId) → Contains all c → Contains (keys_of c.set) row → Contains (flat_map (λ d. keys_of d.set) all) row
+pub all_rows : (all : List Placed) (c : Placed) (row : RowId) → Contains all c → Contains (keys_of c.set) row → Contains (flat_map (λ d. keys_of d.set) all) row
 all_rows [] c row h k = absurd (among_none c h)
 all_rows (d ∷ ds) c row h k = ⊎_elim
     (λ same. Contains-append_left (keys_of d.set) (flat_map (λ x. keys_of x.set) ds) row (subst (λ (x : Placed). Contains (keys_of x.set) row) (sym same) k))
