@@ -4,3 +4,4 @@ mod Deciding
 mod Working
 mod Growing
 mod Seating
+mod Lawful

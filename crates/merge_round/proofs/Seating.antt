@@ -1,12 +1,24 @@
 -- Seats get their room one after another.
 use Rattle.std.proofs.Common.{◌≡◌, ℕ, ◌+◌, List, [], ◌∷◌, ◌++◌, length, All, sym, ap, ◌∙◌, subst, arith}
+use Rattle.std.specs.List.{AllByRecursion}
 use Rattle.std.proofs.lemmas.List.{length-append}
-use Rattle.std.proofs.lemmas.List.Elements.{All-append, All-append_left, All-append_right, All-head, All-push}
+use Rattle.std.proofs.lemmas.List.Elements.{All-head, All-tail, All-push, All-contains, Contains-push, All-from_recursion}
 use Rattle.claim_rule.specs.declared.seat.ClaimSeat.{ClaimSeat}
 use Rattle.claim_rule.specs.Seats.{IsFreshSeatOf}
 use Rattle.merge_round.specs.declared.seat.WorkerSeat.{WorkerSeat}
 use Rattle.merge_round.specs.Rounds.{Round, plan_of}
 use Rattle.merge_round.specs.Seats.{IsNewWorkerOf}
+
+-- what holds of all holds of the last one, and of those before it
+pub last_all : {X : Type 0} (P : X → Type 0) (xs : List X) (x : X) → All P (xs ++ x ∷ []) → P x
+last_all P xs x h = All-contains P (xs ++ x ∷ []) x h (Contains-push xs x)
+
+pub front_all : {X : Type 0} (P : X → Type 0) (xs : List X) (x : X) → All P (xs ++ x ∷ []) → All P xs
+front_all {X} P xs x h = All-from_recursion P xs (by xs h)
+  where
+    by : (ys : List X) → All P (ys ++ x ∷ []) → AllByRecursion P ys
+    by [] h = tt
+    by (y ∷ ys) h = (All-head P y (ys ++ x ∷ []) h, by ys (All-tail P y (ys ++ x ∷ []) h))
 
 pub next_seat : (all before after : List ClaimSeat) (claims : ClaimSeat) (seat : WorkerSeat) (old new : List WorkerSeat) (count : ℕ) →
     length before + length old ≡ length all →
@@ -20,8 +32,8 @@ next_seat all before after claims seat old new count counted so popped pushed ma
     (λ round is fresh.
     let both = so round is fresh in
     let split : All (IsFreshSeatOf round.table (plan_of round)) (after ++ claims ∷ []) = subst (All (IsFreshSeatOf round.table (plan_of round))) popped both.0 in (
-      All-append_left (IsFreshSeatOf round.table (plan_of round)) after (claims ∷ []) split,
+      front_all (IsFreshSeatOf round.table (plan_of round)) after claims split,
       subst (All (IsNewWorkerOf round)) (sym pushed) (All-push (IsNewWorkerOf round) old seat both.1
-      (made round is (All-head (IsFreshSeatOf round.table (plan_of round)) claims [] (All-append_right (IsFreshSeatOf round.table (plan_of round)) after (claims ∷ []) split)))),
+      (made round is (last_all (IsFreshSeatOf round.table (plan_of round)) after claims split))),
     )),
 )

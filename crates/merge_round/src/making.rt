@@ -1,5 +1,5 @@
 //! How a round is made, with its seats.
-ghost use Rattle.std.specs.Prelude.{◌≡◌, ◌≤◌, ◌<◌, [], All, IfOk, length};
+ghost use Rattle.std.specs.Prelude.{◌≡◌, ◌^◌, ◌≤◌, ◌<◌, All, IfOk, length};
 ghost use Rattle.std.specs.List.{slice_get};
 ghost use Rattle.std.specs.Option.{option_copied};
 ghost use Rattle.geo_base.specs.declared.limits.TheConstants.{MAX_REGIONS};
@@ -15,7 +15,7 @@ use crate::numbering::{Numbering, number};
 use crate::round::MergeRound;
 use crate::seat::WorkerSeat;
 use claim_rule::{ClaimPlan, ClaimSeat, ClaimTable};
-use geo_base::{NoMemory, RowId};
+use geo_base::{Epoch, NoMemory, RowId};
 use std::alloc::Global;
 use std::marker::Brand;
 use write_set::Changes;
@@ -40,6 +40,7 @@ impl<C: Changes + Drop> MergeRound<C> {
         ensures count { IfOk result (λ made. length made.1.items ≡ workers) }
         ensures seats { IfOk result (λ made. All (IsNewWorkerOf (round_of made.0)) made.1.items) }
     {
+        epoch_fits(input.epoch);
         let Numbering { rows, entries } = number(alloc, input.batches.items())?;
         let row_count = rows.len() as u32;
         let count = entries.len() as u32;
@@ -63,6 +64,11 @@ impl<C: Changes> MergeRound<C> {
         self.rows.get_index(number as usize)
     }
 }
+
+/// An epoch is a number of 32 bits.
+fn epoch_fits(epoch: Epoch)
+    ensures { epoch < 2 ^ 32 }
+{}
 
 /// A table for the claims of the round that is made of this.
 fn table_for<C: Changes, P: ClaimPlan>(
