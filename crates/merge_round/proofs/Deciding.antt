@@ -82,7 +82,7 @@ module _ (rows : List RowId) (value : ℕ → ℕ) (f : RowId → ℕ) (low : �
       by true rest = refl
       by false rest = rest
 
-find_same : (f g : ChangeOfRow → Bool) (set : List ChangeOfRow) → ((p : ChangeOfRow) → Contains set p → f p ≡ g p) → find f set ≡ find g set
+pub find_same : (f g : ChangeOfRow → Bool) (set : List ChangeOfRow) → ((p : ChangeOfRow) → Contains set p → f p ≡ g p) → find f set ≡ find g set
 find_same f g [] same = refl
 find_same f g (p ∷ ps) same = rw (same p (among_first p ps), find_same f g ps (λ q h. same q (among_later p q ps h))) refl
 

@@ -5,3 +5,6 @@ mod Working
 mod Growing
 mod Seating
 mod Lawful
+mod Whole
+mod Outcomes
+mod Journals

@@ -9,7 +9,8 @@ use Rattle.geo_base.specs.declared.row_id.RowId.{RowId}
 use Rattle.geo_base.specs.Order.{row_eq}
 use Rattle.geo_base.specs.laws.Orders.{row_eq_equiv}
 use Rattle.write_set.specs.Journal.{Placed}
-use Rattle.write_set.specs.laws.Among.{among_none, among_cases, any_found}
+use Rattle.write_set.specs.Sets.{ChangeOfRow}
+use Rattle.write_set.specs.laws.Among.{among_none, among_first, among_later, among_cases, any_found}
 use Rattle.write_set.specs.laws.Rivals.{row_same}
 use Rattle.merge_round.specs.Rounds.{rows_in, number_in}
 
@@ -79,3 +80,11 @@ all_rows (d ∷ ds) c row h k = ⊎_elim
 -- each row of a candidate is one of the round's rows
 pub row_known : (all : List Placed) (c : Placed) (row : RowId) → Contains all c → Contains (keys_of c.set) row → Contains (rows_in all) row
 row_known all c row h k = inserted_has (flat_map (λ d. keys_of d.set) all) [] row (all_rows all c row h k)
+
+-- the row of a change is one of the set's
+pub key_among : (set : List ChangeOfRow) (p : ChangeOfRow) → Contains set p → Contains (keys_of set) p.0
+key_among [] p h = absurd (among_none p h)
+key_among (q ∷ qs) p h = ⊎_elim
+    (λ same. subst (λ (x : ChangeOfRow). Contains (keys_of (q ∷ qs)) x.0) same (among_first q.0 (keys_of qs)))
+    (λ later. among_later q.0 p.0 (keys_of qs) (key_among qs p later))
+    (among_cases q qs p h)

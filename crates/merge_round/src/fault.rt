@@ -1,5 +1,3 @@
-use geo_base::NoMemory;
-
 /// Why a round gave no outcomes.
 #[derive(Clone, Copy, Debug, PartialEq, Eq)]
 pub enum GatherFault {
@@ -7,15 +5,4 @@ pub enum GatherFault {
     Unjudged(u32),
     /// There was no memory.
     NoMemory,
-}
-
-impl From<NoMemory> for GatherFault {
-    ghost use Rattle.std.specs.Prelude.{◌≡◌};
-    ghost use Rattle.merge_round.specs.declared.fault.GatherFault.TheVariants.{NoMemory as Lacking};
-
-    fn from(_e: NoMemory) -> GatherFault
-        ensures { result ≡ Lacking }
-    {
-        GatherFault::NoMemory
-    }
 }

@@ -8,7 +8,7 @@ ghost use Rattle.merge_round.specs.Rounds.{rows_in, outcomes_of, numbered};
 ghost use Rattle.merge_round.specs.Seats.{round_of, work_of, IsWorkerOf};
 ghost use Rattle.merge_round.specs.Gathers.{IsJudgedBy, AreAllApart, HasGatherCause};
 ghost use Rattle.merge_round.specs.inner.Entries.{IsNamed};
-ghost use Rattle.merge_round.specs.inner.Gathering.{all_verdicts, IsOutcome, HasVerdict, IsFirstLacking, TakesOver, IsWhole};
+ghost use Rattle.merge_round.specs.inner.Gathering.{all_verdicts, IsOutcome, HasVerdict, IsFirstLacking, TakesOver, IsWhole, IsGathered};
 
 use crate::fault::GatherFault;
 use crate::judged::Judged;
@@ -31,19 +31,42 @@ impl<C: Changes + Drop> MergeRound<C> {
         ensures unjudged { IfErr result (HasGatherCause (round_of self) seats.items) }
         ensures apart { AreAllApart seats.items }
     {
+        let judged = self.decided(alloc, seats);
+        drop(self);
+        judged
+    }
+
+    fn decided(&self, alloc: Global, seats: Vec<WorkerSeat>) -> Result<Judged, GatherFault>
+        requires { All (IsWorkerOf (round_of self.now)) seats.items }
+        ensures epoch { IfOk result (λ judged. judged.epoch ≡ (round_of self.now).epoch) }
+        ensures outcomes { IfOk result (λ judged. judged.outcomes ≡ outcomes_of (round_of self.now)) }
+        ensures whole { IfOk result (λ _. (number : ℕ) → number < length (round_of self.now).all → IsJudgedBy seats.items number) }
+        ensures unjudged { IfErr result (HasGatherCause (round_of self.now) seats.items) }
+        ensures apart { AreAllApart seats.items }
+    {
+        let verdicts = self.gathered(alloc, seats);
+        match first_unjudged(&verdicts, self.entries.len() as u32) {
+            Some(number) => Err(GatherFault::Unjudged(number)),
+            None => match self.outcomes(alloc, &verdicts) {
+                Ok(outcomes) => Ok(Judged {
+                    epoch: self.input.epoch,
+                    outcomes,
+                }),
+                Err(NoMemory) => Err(GatherFault::NoMemory),
+            },
+        }
+    }
+
+    /// The verdicts that these seats found.
+    fn gathered(&self, alloc: Global, seats: Vec<WorkerSeat>) -> Vec<Option<Verdict>>
+        requires { All (IsWorkerOf (round_of self.now)) seats.items }
+        ensures { IsGathered (round_of self.now) seats.items result.items }
+    {
         let mut seats = seats;
-        let verdicts = match seats.pop() {
+        match seats.pop() {
             Some(seat) => self.together(seat, seats).verdicts,
             None => Vec::new(alloc),
-        };
-        if let Some(number) = first_unjudged(&verdicts, self.entries.len() as u32) {
-            return Err(GatherFault::Unjudged(number));
         }
-        let outcomes = self.outcomes(alloc, &verdicts)?;
-        Ok(Judged {
-            epoch: self.input.epoch,
-            outcomes,
-        })
     }
 
     /// All these seats as one.
@@ -91,10 +114,9 @@ impl<C: Changes + Drop> MergeRound<C> {
         ensures { IfOk result (λ outcomes. outcomes.items ≡ outcomes_of (round_of self.now)) }
     {
         let mut outcomes = Vec::with_capacity(alloc, verdicts.len())?;
-        for verdict in verdicts {
-            if let Some(verdict) = verdict {
-                outcomes.push(self.outcome(alloc, *verdict)?)?;
-            }
+        for found in verdicts {
+            let verdict = found.unwrap();
+            outcomes.push(self.outcome(alloc, verdict)?)?;
         }
         Ok(outcomes)
     }

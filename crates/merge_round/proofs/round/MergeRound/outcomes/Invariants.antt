@@ -4,5 +4,5 @@ use Rattle.merge_round.specs.Seats.{round_of}
 use Rattle.merge_round.proofs.round.MergeRound.outcomes.Given as goal
 
 -- the outcomes so far
-abbrev pub invariant-loop-verdict : goal.invariant-loop-verdict
-invariant-loop-verdict g l = l.outcomes.items ≡ map (outcome_in (round_of l.self)) (take l.verdict-index (round_of l.self).all)
+abbrev pub invariant-loop-found : goal.invariant-loop-found
+invariant-loop-found g l = l.outcomes.items ≡ map (outcome_in (round_of l.self)) (take l.found-index (round_of l.self).all)
