@@ -1,10 +1,9 @@
 -- What a seat finds as it works on a candidate is what the definitions say of it.
-use Rattle.std.proofs.Common.{◌≡◌, ℕ, zero, suc, ◌+◌, ◌^◌, ◌<◌, ◌≤◌, nat_lt, nat_le, Bool, true, false, cond, not, ◌&&◌, Option, None, Some, List, [], ◌∷◌, ◌++◌, length, map, Contains, All, refl, sym, ap, ◌∙◌, subst, arith}
+use Rattle.std.proofs.Common.{◌≡◌, ℕ, zero, suc, ◌^◌, ◌<◌, ◌≤◌, nat_lt, nat_le, Bool, true, false, cond, not, ◌&&◌, Option, None, Some, List, [], ◌∷◌, ◌++◌, length, map, Contains, All, refl, sym, ap, ◌∙◌, subst, arith}
 use Rattle.std.specs.Prelude.{find, unwrap_or, slice_index_or}
 use Rattle.std.specs.List.{slice_get, AllByRecursion}
 use Rattle.std.specs.Option.{option_map}
 use Rattle.std.specs.Map.{keys_of}
-use Rattle.std.proofs.lemmas.Bool.{false≢true}
 use Rattle.std.proofs.lemmas.Bool.Decides.{nat_tests}
 use Rattle.std.proofs.lemmas.Option.{none-some, same_Some, slice_get-map, slice_get-get_or}
 use Rattle.std.proofs.lemmas.List.{append-nil, length-map}
@@ -12,14 +11,12 @@ use Rattle.std.proofs.lemmas.List.Elements.{All-contains, All-from_recursion}
 use Rattle.geo_base.specs.declared.row_id.RowId.{RowId}
 use Rattle.geo_base.specs.declared.claim.Claim.{Claim}
 use Rattle.geo_base.specs.declared.numbers.CandId.{CandId}
-use Rattle.geo_base.specs.declared.outcome.Outcome.{Outcome}
-use Rattle.geo_base.specs.declared.outcome.Outcome.TheVariants as outcome
 use Rattle.geo_base.specs.Claims.{word_of, IsClaim}
 use Rattle.write_set.specs.Sets.{ChangeOfRow, has_row}
 use Rattle.write_set.specs.Journal.{Placed}
 use Rattle.write_set.specs.Merge.{claim_of, id_of, is_fresh, is_beaten_on, contenders, winner_of, first_changed, first_beaten, changed_or, beaten_or_committed, verdict_of}
-use Rattle.write_set.specs.laws.Among.{among_none, among_first, among_later, filtered_among, none_found, all_pass, all_among}
-use Rattle.write_set.specs.laws.Rivals.{row_among, fresh_unchanged}
+use Rattle.write_set.specs.laws.Among.{among_first, among_later, filtered_among, all_among}
+use Rattle.write_set.specs.laws.Rivals.{fresh_unchanged}
 use Rattle.claim_rule.specs.Plan.{Pieces, piece_of, final_of}
 use Rattle.claim_rule.specs.declared.view.ClaimView.{ClaimView}
 use Rattle.claim_rule.specs.declared.table.ClaimTable.{ClaimTable}
@@ -30,7 +27,7 @@ use Rattle.merge_round.specs.declared.verdict.Verdict.TheVariants.{Committed, Ch
 use Rattle.merge_round.specs.Rounds.{Round, rows_in, number_in, claims_of, plan_by, plan_of, final_word, numbered, verdict_on, AreClaims}
 use Rattle.merge_round.specs.inner.Entries.{entry_of, first_above, last_at, claim_in, claims_made, IsEntry}
 use Rattle.merge_round.proofs.Numbers.{number_named, row_known}
-use Rattle.merge_round.proofs.Finals.{finals_decide, beaten_word, winner_word, no_winner_word, found_passes}
+use Rattle.merge_round.proofs.Finals.{beaten_word, winner_word, no_winner_word, found_passes}
 
 -- ---- a candidate by its number
 

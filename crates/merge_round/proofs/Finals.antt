@@ -1,6 +1,5 @@
 -- The greatest word of a row decides as comparing each candidate with each other does.
-use Rattle.std.proofs.Common.{◌≡◌, ◌⊎◌, inl, inr, ⊎_elim, ℕ, zero, suc, ◌<◌, ◌≤◌, max, nat_lt, Bool, true, false, cond, not, ◌||◌, ◌&&◌, ◌==◌, Option, None, Some, List, [], ◌∷◌, map, Contains, All, refl, sym, ap, ◌∙◌, subst, arith, eq-eqb, ne_eqb}
-use Rattle.std.specs.List.{list_any}
+use Rattle.std.proofs.Common.{◌≡◌, ℕ, zero, suc, ◌<◌, ◌≤◌, max, nat_lt, Bool, true, false, cond, not, ◌||◌, ◌&&◌, None, Some, List, [], ◌∷◌, map, Contains, refl, sym, ap, ◌∙◌, subst, arith, eq-eqb, ne_eqb}
 use Rattle.std.specs.Prelude.{find}
 use Rattle.std.specs.Map.{keys_of}
 use Rattle.std.proofs.lemmas.Bool.{false≢true}
@@ -9,14 +8,14 @@ use Rattle.std.proofs.lemmas.List.Elements.{All-contains}
 use lib.ListN.{get_elem?}
 use mathlib.Core.Option.{some, some-ne-none, some-injective}
 use Rattle.geo_base.specs.declared.row_id.RowId.{RowId}
-use Rattle.geo_base.specs.Claims.{beats, word_of, IsClaim}
+use Rattle.geo_base.specs.Claims.{word_of, IsClaim}
 use Rattle.geo_base.specs.Order.{row_eq}
 use Rattle.geo_base.specs.laws.Orders.{row_eq_equiv}
 use Rattle.geo_base.specs.laws.Winning.{beats_word}
 use Rattle.write_set.specs.Sets.{ChangeOfRow, has_row}
 use Rattle.write_set.specs.Journal.{Placed}
 use Rattle.write_set.specs.Merge.{claim_of, wins, is_fresh, contenders, is_beaten_on, winner_of}
-use Rattle.write_set.specs.laws.Among.{true_or_false, and_true, among_first, among_later, any_found, any_among, none_among, none_found, filtered_among, among_filtered}
+use Rattle.write_set.specs.laws.Among.{among_first, among_later, any_found, none_among, none_found, filtered_among, among_filtered}
 use Rattle.write_set.specs.laws.Rivals.{row_same}
 use Rattle.claim_rule.specs.Plan.{top, word_on, best}
 use Rattle.claim_rule.specs.laws.Tops.{top_at, top_reached, contains_at}

@@ -1,5 +1,5 @@
 -- A round of a journal's epoch judges as the journal does.
-use Rattle.std.proofs.Common.{◌≡◌, ⊎_elim, ℕ, suc, ◌+◌, ◌<◌, ◌≤◌, nat_lt, nat_le, Bool, true, false, cond, not, ◌&&◌, Option, None, Some, List, [], ◌∷◌, length, map, filter, Contains, refl, sym, ap, ◌∙◌, subst, arith}
+use Rattle.std.proofs.Common.{◌≡◌, ℕ, suc, ◌+◌, nat_lt, nat_le, Bool, true, false, not, ◌&&◌, Option, None, Some, List, [], ◌∷◌, length, map, filter, Contains, refl, sym, ap, ◌∙◌, arith}
 use Rattle.std.specs.Prelude.{find, unwrap_or}
 use Rattle.std.specs.List.{list_any, list_all}
 use Rattle.std.proofs.lemmas.Bool.Decides.{nat_tests}
@@ -7,7 +7,7 @@ use Rattle.geo_base.specs.declared.row_id.RowId.{RowId}
 use Rattle.geo_base.specs.declared.outcome.Outcome.{Outcome}
 use Rattle.geo_base.specs.declared.outcome.Outcome.TheVariants as outcome
 use Rattle.write_set.specs.Sets.{ChangeOfRow, has_row}
-use Rattle.write_set.specs.Journal.{Journal, Placed, batches_at, candidates_of, epochs_of}
+use Rattle.write_set.specs.Journal.{Journal, Placed, epochs_of}
 use Rattle.write_set.specs.Merge.{wins, id_of, is_fresh, contenders, is_beaten_on, winner_of, first_changed, first_beaten, changed_or, beaten_or_committed, verdict_of, verdicts, last_change}
 use Rattle.write_set.specs.laws.Among.{among_first, among_later}
 use Rattle.write_set.specs.laws.Rivals.{row_among}

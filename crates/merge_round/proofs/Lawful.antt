@@ -1,15 +1,15 @@
 -- The batches of an epoch: how many candidates they have, that words hold their claims, and that their claims are a plan.
-use Rattle.std.proofs.Common.{◌≡◌, ℕ, zero, suc, ◌+◌, ◌-◌, ◌*◌, ◌^◌, ◌<◌, ◌≤◌, Bool, true, false, cond, List, [], ◌∷◌, ◌++◌, length, map, All, Contains, refl, sym, ap, ◌∙◌, subst, arith}
+use Rattle.std.proofs.Common.{◌≡◌, ℕ, suc, ◌+◌, ◌-◌, ◌*◌, ◌^◌, ◌<◌, ◌≤◌, Bool, true, false, cond, List, [], ◌∷◌, length, map, All, Contains, refl, ap, arith}
 use Rattle.std.specs.List.{AllByRecursion}
 use Rattle.std.specs.Map.{keys_of}
 use Rattle.std.proofs.lemmas.List.{length-append, length-map}
 use Rattle.std.proofs.lemmas.List.Elements.{All-head, All-tail, All-append, All-from_recursion}
-use Rattle.geo_base.specs.declared.limits.TheConstants.{MAX_CANDIDATES, MAX_REGIONS}
+use Rattle.geo_base.specs.declared.limits.TheConstants.{MAX_CANDIDATES}
 use Rattle.geo_base.specs.declared.row_id.RowId.{RowId}
 use Rattle.geo_base.specs.Claims.{word_of, IsClaim}
 use Rattle.write_set.specs.declared.candidate.Candidate.{Candidate}
 use Rattle.write_set.specs.declared.batch.Batch.{Batch}
-use Rattle.write_set.specs.Journal.{Placed, placed_from, candidates_of, IsCandidate, IsBatch, AreBatches}
+use Rattle.write_set.specs.Journal.{Placed, placed_from, candidates_of, IsCandidate, AreBatches}
 use Rattle.write_set.specs.Merge.{claim_of, is_fresh}
 use Rattle.write_set.specs.laws.Among.{among_first, among_later}
 use Rattle.claim_rule.specs.Plan.{IsPlan}

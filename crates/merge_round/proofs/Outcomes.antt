@@ -1,12 +1,11 @@
 -- Verdicts become outcomes, one after another.
-use Rattle.std.proofs.Common.{◌≡◌, ℕ, zero, suc, ◌+◌, ◌<◌, ◌≤◌, Option, None, Some, List, [], ◌∷◌, ◌++◌, length, map, take, Contains, refl, sym, ap, ◌∙◌, subst, arith}
+use Rattle.std.proofs.Common.{◌≡◌, ℕ, zero, suc, ◌+◌, ◌<◌, Option, None, Some, List, [], ◌∷◌, ◌++◌, length, map, take, Contains, refl, sym, ap, ◌∙◌, subst, arith}
 use Rattle.std.specs.Prelude.{slice_index_or}
 use Rattle.std.specs.List.{slice_get}
 use Rattle.std.proofs.lemmas.Option.{none-some, same_Some, get_or_from_slice_get, slice_get-map, slice_get-get_or}
-use Rattle.std.proofs.lemmas.List.{take_more, map-append, length-map}
+use Rattle.std.proofs.lemmas.List.{take_more, map-append}
 use mathlib.Core.Logic.{dite}
 use native.Mathlib.Decide.{ℕ_discrete}
-use Rattle.geo_base.specs.declared.row_id.RowId.{RowId}
 use Rattle.geo_base.specs.declared.outcome.Outcome.{Outcome}
 use Rattle.write_set.specs.Sets.{ChangeOfRow}
 use Rattle.write_set.specs.Journal.{Placed}
@@ -14,11 +13,10 @@ use Rattle.write_set.specs.Merge.{first_changed, first_beaten, changed_or, beate
 use Rattle.std.specs.Prelude.{nat_lt}
 use Rattle.std.specs.Option.{option_map, IsSome}
 use Rattle.write_set.specs.laws.Among.{among_first, among_later}
-use Rattle.std.specs.Map.{keys_of}
 use Rattle.merge_round.specs.declared.verdict.Verdict.{Verdict}
 use Rattle.merge_round.specs.Rounds.{Round, rows_in, number_in, numbered, outcome_in}
 use Rattle.merge_round.specs.inner.Entries.{IsNamed}
-use Rattle.merge_round.specs.inner.Gathering.{all_verdicts, IsOutcome, HasVerdict}
+use Rattle.merge_round.specs.inner.Gathering.{all_verdicts, HasVerdict}
 use Rattle.merge_round.proofs.Numbers.{number_named, row_known, key_among}
 use Rattle.merge_round.proofs.Finals.{found_passes}
 

@@ -1,13 +1,12 @@
 -- Seats are brought together: the whole has what each of them had.
-use Rattle.std.proofs.Common.{◌≡◌, ⊎_elim, ℕ, zero, suc, ◌+◌, ◌<◌, ◌≤◌, nat_lt, Bool, true, false, cond, Option, None, Some, List, [], ◌∷◌, ◌++◌, length, map, All, Contains, refl, sym, ap, ◌∙◌, subst, arith}
+use Rattle.std.proofs.Common.{◌≡◌, ⊎_elim, ℕ, zero, suc, ◌<◌, ◌≤◌, nat_lt, Bool, true, false, cond, Option, None, Some, List, [], ◌∷◌, length, map, All, Contains, refl, sym, ap, ◌∙◌, subst, arith}
 use Rattle.std.specs.Prelude.{sum_by, slice_index_or}
 use Rattle.std.specs.List.{slice_get, AllByRecursion}
 use Rattle.std.specs.Option.{option_map}
 use Rattle.std.proofs.lemmas.Bool.Decides.{nat_tests}
-use Rattle.std.proofs.lemmas.Option.{none-some, same_Some, slice_get-get_or}
-use Rattle.std.proofs.lemmas.List.{append_assoc}
+use Rattle.std.proofs.lemmas.Option.{none-some}
 use Rattle.std.proofs.lemmas.List.Sums.{sum_by-cons}
-use Rattle.std.proofs.lemmas.List.Elements.{All-from_recursion, All-contains}
+use Rattle.std.proofs.lemmas.List.Elements.{All-from_recursion}
 use Rattle.write_set.specs.Journal.{Placed}
 use Rattle.write_set.specs.laws.Among.{among_none, among_first, among_later, among_cases}
 use Rattle.claim_rule.specs.declared.view.ClaimView.{ClaimView}
@@ -18,9 +17,8 @@ use Rattle.merge_round.specs.declared.verdict.Verdict.{Verdict}
 use Rattle.merge_round.specs.declared.seat.WorkerSeat.{WorkerSeat}
 use Rattle.merge_round.specs.Rounds.{Round, rows_in, numbered, outcome_in, verdict_on}
 use Rattle.merge_round.specs.Seats.{work_of, verdicts_of, held_by, IsWorkerOf}
-use Rattle.merge_round.specs.Gathers.{AreAllApart, IsJudgedBy, IsFirstUnjudged}
+use Rattle.merge_round.specs.Gathers.{IsJudgedBy, IsFirstUnjudged}
 use Rattle.merge_round.specs.inner.Gathering.{all_verdicts, HasVerdict, IsFirstLacking, IsWhole, IsGathered}
-use Rattle.merge_round.proofs.Seating.{last_all, front_all}
 
 -- ---- sums
 

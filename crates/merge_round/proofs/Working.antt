@@ -1,5 +1,5 @@
 -- What a seat's work on one candidate leaves in its view.
-use Rattle.std.proofs.Common.{◌≡◌, ℕ, nat_lt, Bool, false, ◌+◌, ◌<◌, ◌≤◌, Option, Some, List, [], ◌∷◌, ◌++◌, length, All, Contains, refl, sym, ap, ◌∙◌, subst, arith}
+use Rattle.std.proofs.Common.{◌≡◌, ℕ, Bool, false, ◌<◌, Some, List, [], ◌∷◌, ◌++◌, length, All, Contains, refl, sym, ap, ◌∙◌, subst, arith}
 use Rattle.std.proofs.lemmas.Bool.Decides.{nat_tests}
 use Rattle.std.proofs.lemmas.List.{length-map}
 use Rattle.std.proofs.lemmas.List.Elements.{Contains-append_right, All-contains_itself}
@@ -7,9 +7,9 @@ use Rattle.claim_rule.specs.declared.view.ClaimView.{ClaimView}
 use Rattle.claim_rule.specs.Plan.{Pieces, piece_of}
 use Rattle.claim_rule.specs.Rule.{IsFinished}
 use Rattle.claim_rule.specs.declared.view.Draws.{Draws}
-use Rattle.claim_rule.specs.Views.{times, without, claim_drawn, draws_after, piece_finished}
+use Rattle.claim_rule.specs.Views.{times, claim_drawn, draws_after, piece_finished}
 use Rattle.claim_rule.specs.Seats.{IsClaimed, IsClaimDraw}
-use Rattle.claim_rule.specs.laws.Times.{times_pushed, times-without_same, without-pushed, times_none}
+use Rattle.claim_rule.specs.laws.Times.{times_pushed, without-pushed, times_none}
 use Rattle.merge_round.specs.declared.seat.WorkerSeat.{WorkerSeat}
 use Rattle.merge_round.specs.Rounds.{Round, plan_of}
 use Rattle.merge_round.specs.Seats.{work_of, IsTold, IsWorkerOf, MakesClaims}

@@ -1,6 +1,5 @@
 -- What comes of a round where its seats are brought together.
-use Rattle.std.specs.Prelude.{◌≡◌, ℕ, ◌<◌, ◌≤◌, List, [], ◌∷◌, All, Contains, map, length}
-use Rattle.claim_rule.specs.declared.view.ClaimView.{ClaimView}
+use Rattle.std.specs.Prelude.{◌≡◌, ℕ, ◌<◌, List, [], ◌∷◌, All, Contains, length}
 use Rattle.claim_rule.specs.Views.{times}
 use Rattle.claim_rule.specs.Seats.{AreApart}
 use Rattle.geo_base.specs.declared.outcome.Outcome.{Outcome}

@@ -1,5 +1,5 @@
 -- What a seat of a round has done and holds, and what each call of a seat does.
-use Rattle.std.specs.Prelude.{◌≡◌, ◌⊎◌, ℕ, ◌<◌, ◌≤◌, Bool, false, cond, nat_lt, Option, None, Some, List, [], ◌∷◌, ◌++◌, All, Contains, length, slice_index_or}
+use Rattle.std.specs.Prelude.{◌≡◌, ◌⊎◌, ℕ, ◌<◌, ◌≤◌, Bool, false, cond, nat_lt, Option, None, Some, List, [], ◌++◌, All, Contains, length, slice_index_or}
 use Rattle.claim_rule.specs.declared.view.Draws.{Draws}
 use Rattle.claim_rule.specs.declared.view.ClaimView.{ClaimView}
 use Rattle.claim_rule.specs.Plan.{piece_of}
@@ -12,7 +12,6 @@ use Rattle.merge_round.specs.declared.claiming.Claimed.{Claimed}
 use Rattle.merge_round.specs.declared.claiming.Claimed.TheVariants as claimed
 use Rattle.merge_round.specs.declared.judging.Judgement.{Judgement}
 use Rattle.merge_round.specs.declared.judging.Judgement.TheVariants as judgement
-use Rattle.geo_base.specs.declared.row_id.RowId.{RowId}
 use Rattle.write_set.specs.Journal.{candidates_of}
 use Rattle.write_set.specs.declared.changes.Changes.{Ghosts}
 use Rattle.merge_round.specs.declared.round.MergeRound.{MergeRound}

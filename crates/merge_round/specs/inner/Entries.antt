@@ -13,7 +13,7 @@ use Rattle.write_set.specs.Journal.{Placed}
 use Rattle.claim_rule.specs.declared.table.ClaimTable.{ClaimTable}
 use Rattle.claim_rule.specs.declared.view.ClaimView.{ClaimView}
 use Rattle.claim_rule.specs.Seats.{rows_of}
-use Rattle.merge_round.specs.declared.limits.TheConstants.{MAX_ENTRIES, MAX_ROWS}
+use Rattle.merge_round.specs.declared.limits.TheConstants.{MAX_ENTRIES}
 use Rattle.merge_round.specs.declared.numbering.Entry.{Entry}
 use Rattle.merge_round.specs.declared.numbering.Numbering.{Numbering}
 use Rattle.merge_round.specs.Rounds.{rows_in, number_in, AreClaims}

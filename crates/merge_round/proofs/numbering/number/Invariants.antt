@@ -1,4 +1,4 @@
-use Rattle.std.proofs.Common.{◌+◌, ◌*◌, ◌≤◌, length, take}
+use Rattle.std.proofs.Common.{◌*◌, ◌≤◌, length, take}
 use Rattle.write_set.specs.Journal.{candidates_of}
 use Rattle.merge_round.specs.declared.limits.TheConstants.{MAX_BATCH_ROWS}
 use Rattle.merge_round.specs.inner.Entries.{GrowsBy}

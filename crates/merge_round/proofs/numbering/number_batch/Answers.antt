@@ -1,7 +1,4 @@
-use Rattle.std.proofs.Common.{ap, sym, ◌∙◌, ◌++◌, ◌∷◌, [], List, ℕ, arith, subst}
-use Rattle.std.specs.Map.{keys_of}
-use Rattle.merge_round.specs.inner.Entries.{NumbersRows}
-use Rattle.merge_round.specs.declared.numbering.Entry.{Entry}
+use Rattle.std.proofs.Common.{ap, sym, ◌∙◌, ◌++◌, ◌∷◌, [], List, ℕ, arith}
 use Rattle.merge_round.proofs.Growing.{next_candidate}
 use Rattle.merge_round.proofs.numbering.number_batch.Goals as goal
 

@@ -1,4 +1,4 @@
-use Rattle.std.proofs.Common.{◌≡◌, ◌+◌, ◌≤◌, length, take, map}
+use Rattle.std.proofs.Common.{◌+◌, ◌≤◌, length, take}
 use Rattle.std.specs.Map.{keys_of}
 use Rattle.merge_round.specs.inner.Entries.{NumbersRows}
 use Rattle.merge_round.proofs.numbering.number_rows.Given as goal

@@ -1,9 +1,8 @@
-use Rattle.std.proofs.Common.{◌≡◌, ◌≤◌, ◌*◌, ◌^◌, ◌<◌, ℕ, List, length, map, ap, sym, subst, ◌∙◌, arith}
+use Rattle.std.proofs.Common.{◌≡◌, ℕ, length, map, ap, sym, subst, ◌∙◌, arith}
 use Rattle.std.proofs.lemmas.List.{length-map}
 use Rattle.write_set.specs.Journal.{candidates_of}
 use Rattle.claim_rule.specs.Plan.{IsPlan}
 use Rattle.merge_round.specs.Rounds.{plan_by, rows_in}
-use Rattle.merge_round.specs.Seats.{round_of}
 use Rattle.merge_round.specs.inner.Entries.{entry_of}
 use Rattle.merge_round.proofs.Lawful.{few_items, few_candidates, batch_claims, is_plan}
 use Rattle.merge_round.proofs.round.MergeRound.new.Goals as goal
