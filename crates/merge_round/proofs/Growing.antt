@@ -115,10 +115,10 @@ pub next_rows : (changes : List ChangeOfRow) (i : ℕ) (p : ChangeOfRow) (old mi
     new ≡ insert_key row_eq mid copy → number ≡ number_in mid copy → numbers' ≡ numbers ++ number ∷ [] →
     NumbersRows (keys_of (take (i + 1) changes)) old new numbers' × (length new ≤ length old + (i + 1))
 next_rows changes i p old mid new copy numbers number numbers' so below within at same is number_is pushed = (
-    subst (λ (ns : List ℕ). NumbersRows (keys_of (take (i + 1) changes)) old new ns) (sym pushed)
-    (subst (λ (l : List RowId). NumbersRows l old new (numbers ++ number ∷ [])) (ap (λ (r : RowId). keys_of (take i changes) ++ r ∷ []) same ∙ sym (keys_taken changes i p within at))
-    (rows_pushed (keys_of (take i changes)) old mid new copy numbers number so is number_is)),
-    (let most = pushed_length mid new copy (length old + i) is below in omega arith),
+  subst (λ (ns : List ℕ). NumbersRows (keys_of (take (i + 1) changes)) old new ns) (sym pushed)
+      (subst (λ (l : List RowId). NumbersRows l old new (numbers ++ number ∷ [])) (ap (λ (r : RowId). keys_of (take i changes) ++ r ∷ []) same ∙ sym (keys_taken changes i p within at))
+      (rows_pushed (keys_of (take i changes)) old mid new copy numbers number so is number_is)),
+  (let most = pushed_length mid new copy (length old + i) is below in omega arith),
 )
 
 -- ---- candidates
@@ -136,7 +136,7 @@ pub grows_more : (cs ds : List Placed) (a b c : Numbering) → GrowsBy cs a b �
 grows_more cs ds a b c one two =
     let names : List Placed → List RowId = flat_map (λ d. keys_of d.set) in
     let known : (d : Placed) (r : RowId) → Contains cs d → Contains (keys_of d.set) r → Contains b.rows.keys r =
-        λ d r h k. subst (λ (l : List RowId). Contains l r) (sym one.rows) (inserted_has (names cs) a.rows.keys r (all_rows cs d r h k)) in
+    λ d r h k. subst (λ (l : List RowId). Contains l r) (sym one.rows) (inserted_has (names cs) a.rows.keys r (all_rows cs d r h k)) in
     let stay : map (entry_of c.rows.keys) cs ≡ map (entry_of b.rows.keys) cs = ap (λ (l : List RowId). map (entry_of l) cs) two.rows ∙ entries_stay cs (names ds) b.rows.keys known in
     record {
       rows = two.rows ∙ ap (λ (l : List RowId). insert_all row_eq l (names ds)) one.rows ∙ sym (insert_all-append a.rows.keys (names cs) (names ds))
@@ -177,8 +177,8 @@ next_candidate region items i x a b c numbers grown within at so is =
     let here : Placed = record { region = region; csn = i; start = x.start; set = x.set } in
     let count : 0 + length (take i items) ≡ i = omega (arith, length-take i items) in
     let more : placed_from region 0 (take (i + 1) items) ≡ placed_from region 0 (take i items) ++ here ∷ [] =
-        ap (placed_from region 0) (take_more items i x within ∙ ap (λ (y : Candidate). take i items ++ y ∷ []) (sym at)) ∙ placed_pushed region 0 (take i items) x
-        ∙ ap (λ (n : ℕ). placed_from region 0 (take i items) ++ record { region = region; csn = n; start = x.start; set = x.set } ∷ []) count in
+    ap (placed_from region 0) (take_more items i x within ∙ ap (λ (y : Candidate). take i items ++ y ∷ []) (sym at)) ∙ placed_pushed region 0 (take i items) x
+    ∙ ap (λ (n : ℕ). placed_from region 0 (take i items) ++ record { region = region; csn = n; start = x.start; set = x.set } ∷ []) count in
     subst (λ (l : List Placed). GrowsBy l a c) (sym more) (grows_more (placed_from region 0 (take i items)) (here ∷ []) a b c grown (grows_one b c here numbers so is))
 
 -- a turn of the loop over the batches
@@ -186,5 +186,5 @@ pub next_batch : (batches : List Batch) (i : ℕ) (x : Batch) (a b c : Numbering
     GrowsBy (placed_from x.region 0 x.items) b c → GrowsBy (candidates_of (take (i + 1) batches)) a c
 next_batch batches i x a b c grown within at more =
     let all : candidates_of (take (i + 1) batches) ≡ candidates_of (take i batches) ++ placed_from x.region 0 x.items =
-        ap candidates_of (take_more batches i x within ∙ ap (λ (y : Batch). take i batches ++ y ∷ []) (sym at)) ∙ candidates_pushed (take i batches) x in
+    ap candidates_of (take_more batches i x within ∙ ap (λ (y : Batch). take i batches ++ y ∷ []) (sym at)) ∙ candidates_pushed (take i batches) x in
     subst (λ (l : List Placed). GrowsBy l a c) (sym all) (grows_more (candidates_of (take i batches)) (placed_from x.region 0 x.items) a b c grown more)

@@ -28,12 +28,12 @@ pub next_seat : (all before after : List ClaimSeat) (claims : ClaimSeat) (seat :
     (length after + length new ≡ length all)
     × ((round : Round) → length round.all ≡ count → All (IsFreshSeatOf round.table (plan_of round)) all → All (IsFreshSeatOf round.table (plan_of round)) after × All (IsNewWorkerOf round) new)
 next_seat all before after claims seat old new count counted so popped pushed made = (
-    (let a = length-append after (claims ∷ []) in let b = length-append old (seat ∷ []) in let c = ap length popped in let d = ap length pushed in omega arith),
-    (λ round is fresh.
-    let both = so round is fresh in
-    let split : All (IsFreshSeatOf round.table (plan_of round)) (after ++ claims ∷ []) = subst (All (IsFreshSeatOf round.table (plan_of round))) popped both.0 in (
-      front_all (IsFreshSeatOf round.table (plan_of round)) after claims split,
-      subst (All (IsNewWorkerOf round)) (sym pushed) (All-push (IsNewWorkerOf round) old seat both.1
-      (made round is (last_all (IsFreshSeatOf round.table (plan_of round)) after claims split))),
-    )),
+  (let a = length-append after (claims ∷ []) in let b = length-append old (seat ∷ []) in let c = ap length popped in let d = ap length pushed in omega arith),
+  (λ round is fresh.
+      let both = so round is fresh in
+      let split : All (IsFreshSeatOf round.table (plan_of round)) (after ++ claims ∷ []) = subst (All (IsFreshSeatOf round.table (plan_of round))) popped both.0 in (
+        front_all (IsFreshSeatOf round.table (plan_of round)) after claims split,
+        subst (All (IsNewWorkerOf round)) (sym pushed) (All-push (IsNewWorkerOf round) old seat both.1
+            (made round is (last_all (IsFreshSeatOf round.table (plan_of round)) after claims split))),
+      )),
 )

@@ -40,8 +40,8 @@ makes_claims round old new d number worker over draw view =
     let drawn : d ≡ claim_drawn (Some number) number v = draw.leaves ∙ ap (λ (f : ℕ). claim_drawn (Some number) f v) (sym draw.tells.3) in
     let none : times number v.pending ≡ 0 = times_none number v.pending (ap length worker.idle) in
     let is : work_of new ≡ record v { claiming = draws_after (Some number) number v.claiming; claims = v.claims ++ pairs } =
-        view ∙ ap (λ (x : ClaimView). piece_finished number (claims_made pairs x)) drawn
-        ∙ ap (λ (l : List ℕ). record v { claiming = draws_after (Some number) number v.claiming; claims = v.claims ++ pairs; pending = l }) (without-pushed number v.pending none) in
+    view ∙ ap (λ (x : ClaimView). piece_finished number (claims_made pairs x)) drawn
+    ∙ ap (λ (l : List ℕ). record v { claiming = draws_after (Some number) number v.claiming; claims = v.claims ++ pairs; pending = l }) (without-pushed number v.pending none) in
     let long : length v.plan ≡ length round.all = ap length worker.planned ∙ length-map round.all _ in
     record {
       within = (let below = draw.tells.0 in omega arith);

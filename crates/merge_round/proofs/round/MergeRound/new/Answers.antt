@@ -13,7 +13,7 @@ number-requires-clause-lawful g c = rw c.items.ensures (few_items 0 c.args.input
 pub overflow_cast-count : goal.overflow_cast-count
 overflow_cast-count g c =
     let long : length c.in_ok-rows.field-0.entries.items ≡ length (candidates_of c.args.input.batches) =
-        ap length c.in_ok-rows.ensures.entries ∙ length-map _ (entry_of c.in_ok-rows.field-0.rows.keys) ∙ ap (λ bs. length (candidates_of bs)) c.items.ensures in
+    ap length c.in_ok-rows.ensures.entries ∙ length-map _ (entry_of c.in_ok-rows.field-0.rows.keys) ∙ ap (λ bs. length (candidates_of bs)) c.items.ensures in
     let few = few_candidates 0 c.args.input.epoch c.args.input.batches c.requires.lawful in
     let regions = c.requires.regions in
     let count = c.len-count.ensures in
@@ -22,7 +22,7 @@ overflow_cast-count g c =
 pub table_for-requires-clause-plan : goal.table_for-requires-clause-plan
 table_for-requires-clause-plan g c =
     let long : length c.in_ok-rows.field-0.entries.items ≡ length (candidates_of c.args.input.batches) =
-        ap length c.in_ok-rows.ensures.entries ∙ length-map _ (entry_of c.in_ok-rows.field-0.rows.keys) ∙ ap (λ bs. length (candidates_of bs)) c.items.ensures in
+    ap length c.in_ok-rows.ensures.entries ∙ length-map _ (entry_of c.in_ok-rows.field-0.rows.keys) ∙ ap (λ bs. length (candidates_of bs)) c.items.ensures in
     let rows : length c.in_ok-rows.field-0.rows.keys ≡ length (rows_in (candidates_of c.args.input.batches)) = ap length c.in_ok-rows.ensures.rows ∙ ap (λ bs. length (rows_in (candidates_of bs))) c.items.ensures in
     let counted : c.len-count.result ≡ length (candidates_of c.args.input.batches) = (let count = c.len-count.ensures in omega arith) in
     let plan = is_plan (g.C.Changes.last c.args.input.before) (candidates_of c.args.input.batches) in
@@ -30,17 +30,19 @@ table_for-requires-clause-plan g c =
     (subst (λ (n : ℕ). IsPlan (plan_by (g.C.Changes.last c.args.input.before) (candidates_of c.args.input.batches)) (length (rows_in (candidates_of c.args.input.batches))) n) (sym counted) plan)
 
 pub invariant_of-round : goal.invariant_of-round
-invariant_of-round g c = record { held = record {
-  claims = batch_claims 0 c.args.input.epoch c.args.input.batches c.requires.lawful (let few = c.requires.regions in omega arith) c.epoch_fits.ensures;
-  few = (let few = few_candidates 0 c.args.input.epoch c.args.input.batches c.requires.lawful in let regions = c.requires.regions in omega arith);
-  named = c.in_ok-rows.ensures.rows ∙ ap (λ bs. rows_in (candidates_of bs)) c.items.ensures;
-  entered = c.in_ok-rows.ensures.entries ∙ ap (λ bs. map (entry_of c.in_ok-rows.field-0.rows.keys) (candidates_of bs)) c.items.ensures;
-  tabled = c.in_ok-table.ensures.rows ∙ c.len-row_count.ensures.len;
-} }
+invariant_of-round g c = record {
+  held = record {
+    claims = batch_claims 0 c.args.input.epoch c.args.input.batches c.requires.lawful (let few = c.requires.regions in omega arith) c.epoch_fits.ensures;
+    few = (let few = few_candidates 0 c.args.input.epoch c.args.input.batches c.requires.lawful in let regions = c.requires.regions in omega arith);
+    named = c.in_ok-rows.ensures.rows ∙ ap (λ bs. rows_in (candidates_of bs)) c.items.ensures;
+    entered = c.in_ok-rows.ensures.entries ∙ ap (λ bs. map (entry_of c.in_ok-rows.field-0.rows.keys) (candidates_of bs)) c.items.ensures;
+    tabled = c.in_ok-table.ensures.rows ∙ c.len-row_count.ensures.len;
+  };
+}
 
 pub returns-clause-seats : goal.returns-clause-seats
 returns-clause-seats g c =
     let long : length c.in_ok-rows.field-0.entries.items ≡ length (candidates_of c.args.input.batches) =
-        ap length c.in_ok-rows.ensures.entries ∙ length-map _ (entry_of c.in_ok-rows.field-0.rows.keys) ∙ ap (λ bs. length (candidates_of bs)) c.items.ensures in
+    ap length c.in_ok-rows.ensures.entries ∙ length-map _ (entry_of c.in_ok-rows.field-0.rows.keys) ∙ ap (λ bs. length (candidates_of bs)) c.items.ensures in
     let counted : c.len-count.result ≡ length (candidates_of c.args.input.batches) = (let count = c.len-count.ensures in omega arith) in
     c.in_ok-seats.ensures.seats _ (sym counted) c.in_ok-table.ensures.seats
