@@ -4,7 +4,7 @@ use Rattle.claim_rule.specs.declared.view.Draws.{Draws}
 use Rattle.claim_rule.specs.declared.view.ClaimView.{ClaimView}
 use Rattle.claim_rule.specs.Plan.{piece_of}
 use Rattle.claim_rule.specs.Rule.{IsFinished}
-use Rattle.claim_rule.specs.Views.{times, fresh, draws_after, done_seen}
+use Rattle.claim_rule.specs.Views.{times, unused_view, draws_after, done_seen}
 use Rattle.claim_rule.specs.Seats.{view_of, IsSeatOf}
 use Rattle.merge_round.specs.declared.verdict.Verdict.{Verdict}
 use Rattle.merge_round.specs.declared.seat.WorkerSeat.{WorkerSeat}
@@ -52,7 +52,7 @@ pub record IsWorkerOf (round : Round) (seat : WorkerSeat) : Type 0 where
 -- a seat of this round that has done nothing
 pub record IsNewWorkerOf (round : Round) (seat : WorkerSeat) : Type 0 where
   pub worker : IsWorkerOf round seat
-  pub idle : work_of seat ≡ fresh (plan_of round) 1 false
+  pub idle : work_of seat ≡ unused_view (plan_of round) 1 false
 
 -- draws are over: an earlier one gave a number that isn't below n, and nothing was drawn now; or the one now did
 abbrev pub EndsDraws : ℕ → Draws → Draws → Type 0

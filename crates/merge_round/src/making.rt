@@ -6,7 +6,7 @@ ghost use Rattle.geo_base.specs.declared.limits.TheConstants.{MAX_REGIONS};
 ghost use Rattle.write_set.specs.Journal.{AreBatches, candidates_of};
 ghost use Rattle.claim_rule.specs.declared.limits.TheConstants.{MAX_WORKERS};
 ghost use Rattle.claim_rule.specs.Plan.{IsPlan};
-ghost use Rattle.claim_rule.specs.Seats.{rows_of, IsFreshSeatOf};
+ghost use Rattle.claim_rule.specs.Seats.{rows_of, IsUnusedSeatOf};
 ghost use Rattle.merge_round.specs.Rounds.{Round, rows_in, plan_by, plan_of};
 ghost use Rattle.merge_round.specs.Seats.{round_of, IsNewWorkerOf};
 
@@ -83,7 +83,7 @@ fn table_for<C: Changes, P: ClaimPlan>(
     requires workers { (0 < workers) × (workers ≤ MAX_WORKERS) }
     ensures rows { IfOk result (λ made. rows_of made.0 ≡ rows) }
     ensures count { IfOk result (λ made. length made.1.items ≡ workers) }
-    ensures seats { IfOk result (λ made. All (IsFreshSeatOf made.0 P.plan) made.1.items) }
+    ensures seats { IfOk result (λ made. All (IsUnusedSeatOf made.0 P.plan) made.1.items) }
 {
     ClaimTable::new::<P>(alloc, rows, pieces, workers)
 }
@@ -95,7 +95,7 @@ fn seat_workers(
     candidates: u32,
 ) -> Result<Vec<WorkerSeat>, NoMemory>
     ensures count { IfOk result (λ seats. length seats.items ≡ length claims.items) }
-    ensures seats { (round : Round) → length round.all ≡ candidates → All (IsFreshSeatOf round.table (plan_of round)) claims.items →
+    ensures seats { (round : Round) → length round.all ≡ candidates → All (IsUnusedSeatOf round.table (plan_of round)) claims.items →
         IfOk result (λ seats. All (IsNewWorkerOf round) seats.items) }
 {
     let mut claims = claims;
@@ -107,7 +107,7 @@ fn seat_workers(
 }
 
 fn seat_worker(alloc: Global, claims: ClaimSeat, candidates: u32) -> Result<WorkerSeat, NoMemory>
-    ensures { (round : Round) → length round.all ≡ candidates → IsFreshSeatOf round.table (plan_of round) claims →
+    ensures { (round : Round) → length round.all ≡ candidates → IsUnusedSeatOf round.table (plan_of round) claims →
         IfOk result (IsNewWorkerOf round) }
 {
     Ok(WorkerSeat {
