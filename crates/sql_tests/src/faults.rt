@@ -2,7 +2,7 @@
 use crate::parsed::has_fault;
 use std::test::Fail;
 
-const FAULTS: [(&str, &str); 59] = [
+const FAULTS: [(&str, &str); 62] = [
     ("1a SELECT", "BadText(0)"),
     ("SELECT 9223372036854775808 FROM acc", "BadText(7)"),
     ("SELECT a FROM 'x", "BadText(14)"),
