@@ -1,6 +1,7 @@
 //! Changes of rows, made from words and written as texts.
-ghost use Rattle.std.specs.Prelude.{◌≡◌, true, All, IsTrue};
+ghost use Rattle.std.specs.Prelude.{◌≡◌, true, None, All, IsTrue};
 ghost use Rattle.write_set.specs.declared.change.Change.TheVariants.{Touch};
+ghost use Rattle.write_set.specs.Net.{change_in};
 
 use geo_base::{Cell, Key, RowId, RowImage, print_row};
 use std::alloc::Global;
@@ -113,6 +114,24 @@ pub fn with_changes(
     } else {
         None
     }
+}
+
+/// Whether the row is in the snapshot, or the set has it, or it isn't touched.
+fn is_known_to(set: &WriteSet, change: &RowChange) -> bool
+    ensures { IsTrue result → change.now.change ≡ Touch → change_in set.now change.now.row ≡ None → change.now.before ≡ true }
+{
+    is_known(change) || set.get(&change.row).is_some()
+}
+
+/// What [`WriteSet::with`] answers for the change of a word, or None where a row is touched that is neither in
+/// the snapshot nor in the set.
+pub fn with_word(alloc: Global, set: &WriteSet, word: &str) -> Result<WriteSet, Fail> {
+    let change = row_change_of(alloc, word)?;
+    if !is_known_to(set, &change) {
+        return Err("a touch of an unknown row".into());
+    }
+    let changes = vec![in alloc; change]?;
+    Ok(set.with(alloc, changes)?)
 }
 
 /// The net of the set and of the changes of the words.

@@ -7,6 +7,8 @@
 #[cfg(test)]
 mod changes;
 #[cfg(test)]
+mod kept;
+#[cfg(test)]
 mod merges;
 #[cfg(test)]
 mod nets;

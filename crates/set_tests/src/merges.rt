@@ -11,7 +11,7 @@ use std::test::Fail;
 use write_set::{Batch, Candidate, CandidateList, Plain, WriteSet};
 
 /// A candidate's epoch, region and start, its changes, and what it is told.
-type Case<'a> = (Epoch, RegionNo, Epoch, &'a str, &'a str);
+pub type Case<'a> = (Epoch, RegionNo, Epoch, &'a str, &'a str);
 
 /// The set of a first change, and of one behind it if there is one.
 fn set_of(alloc: Global, words: &str) -> Result<WriteSet, Fail> {
@@ -109,7 +109,7 @@ fn wanted_of(alloc: Global, epoch: Epoch, cases: &[Case]) -> Result<String, Fail
 }
 
 /// Merges the next epoch of two regions, and says what the candidates are told.
-fn merge(alloc: Global, plain: &mut Plain, cases: &[Case]) -> Result<String, Fail>
+pub fn merge(alloc: Global, plain: &mut Plain, cases: &[Case]) -> Result<String, Fail>
     requires { plain.old.regions ≡ 2 }
     ensures { plain.new.regions ≡ 2 }
 {

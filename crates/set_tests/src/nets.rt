@@ -1,5 +1,5 @@
 //! Net write sets, worked by hand from the rule of the net.
-use crate::changes::{add_change, row_changes_of, row_of, with_changes, with_words};
+use crate::changes::{add_change, row_changes_of, row_of, with_changes, with_word, with_words};
 use geo_base::{Cell, Duplicate, RowImage, Txt};
 use std::alloc::Global;
 use std::test::Fail;
@@ -68,7 +68,7 @@ const NETS: [(&str, &str, &str, u64); 9] = [
     ("", "@1 @2", "; 0(1) touched; 0(2) touched; end", 22),
     // Rows that the set has are touched.
     (
-        "+1=10 2 @3",
+        "1=10 2 @3",
         "@1 @2 @3",
         "; 0(1) -> (1, 10); 0(2) removed; 0(3) touched; end",
         42,
@@ -93,6 +93,31 @@ const NETS: [(&str, &str, &str, u64); 9] = [
 fn the_last_change_of_a_row_stands(rt: HostRuntime) -> Result<(), Fail> {
     for net in NETS {
         assert!(rt; is_net(rt.alloc(), net)?, "{net:?}");
+    }
+    Ok(())
+}
+
+/// Changes of a set, one touch behind them of a row that the set has, and what is left, with its size.
+const TOUCHES: [(&str, &str, &str, u64); 3] = [
+    // A row that the snapshot lacks, and that the set puts.
+    ("+1=10", "+@1", "; 0(1) -> (1, 10); end", 20),
+    ("1", "@1", "; 0(1) removed; end", 11),
+    ("@1", "@1", "; 0(1) touched; end", 11),
+];
+
+fn is_touched(
+    alloc: Global,
+    (set, touch, text, size): (&str, &str, &str, u64),
+) -> Result<bool, Fail> {
+    let set = with_words(alloc, &WriteSet::empty(alloc), set)?;
+    let net = with_word(alloc, &set, touch)?;
+    Ok(net.size() == size && says(alloc, &net, text)?)
+}
+
+#[test]
+fn a_touch_of_a_row_of_the_set_leaves_it(rt: HostRuntime) -> Result<(), Fail> {
+    for touch in TOUCHES {
+        assert!(rt; is_touched(rt.alloc(), touch)?, "{touch:?}");
     }
     Ok(())
 }
