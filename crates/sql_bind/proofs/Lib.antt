@@ -1,0 +1,11 @@
+pub mod Conjuncts
+pub mod Levels
+pub mod Lists
+pub mod Places
+pub mod Queries
+pub mod Refusals
+pub mod Rows
+pub mod Sound
+pub mod Tables
+pub mod Typing
+pub mod Writes

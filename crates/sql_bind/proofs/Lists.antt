@@ -1,0 +1,44 @@
+-- What steps keep that are done for each item of a list.
+use Rattle.std.proofs.Common.{◌≡◌, ℕ, zero, suc, ◌+◌, ◌<◌, ◌⊎◌, inl, inr, Option, Some, List, [], ◌∷◌, ◌++◌, length, Result, Ok, refl, ap, subst, arith, length-append}
+use Rattle.std.specs.Prelude.{slice_get}
+use Rattle.std.specs.List.{All}
+use Rattle.std.proofs.lemmas.List.Elements.{All-nil, All-cons, All-append}
+use Rattle.geo_base.specs.laws.Results.{ok_is, bind_ok}
+use Rattle.sql_bind.specs.Steps.{each_behind}
+
+-- one item
+pub All-one : {A : Type 0} (P : A → Type 0) (x : A) → P x → All P (x ∷ [])
+All-one P x p = All-cons P x [] p (All-nil P)
+
+module _ {A B E : Type 0} (step : List B → A → Result B E) where
+  -- what each step keeps holds of the whole
+  pub kept : (P : List B → Type 0) → ((done : List B) (x : A) (y : B) → P done → step done x ≡ Ok y → P (done ++ y ∷ [])) →
+      (done : List B) (items : List A) (out : List B) → P done → each_behind step done items ≡ Ok out → P out
+  kept P keeps done [] out p h = subst P (ok_is done out h) p
+  kept P keeps done (x ∷ items) out p h =
+      let q = bind_ok (step done x) (λ y. each_behind step (done ++ y ∷ []) items) out h in
+      kept P keeps (done ++ q.0 ∷ []) items out (keeps done x q.0 p q.1) q.2
+
+  -- each item that is made has what its step gives it
+  pub all_made : (P : B → Type 0) → ((done : List B) (x : A) (y : B) → step done x ≡ Ok y → P y) → (items : List A) (out : List B) → each_behind step [] items ≡ Ok out → All P out
+  all_made P makes items out h =
+      kept (All P) (λ done x y p e. All-append P done (y ∷ []) p (All-one P y (makes done x y e))) [] items out (All-nil P) h
+
+  -- as many are made as there are
+  pub count : (done : List B) (items : List A) (out : List B) → each_behind step done items ≡ Ok out → length out ≡ length done + length items
+  count done [] out h = let e : length done ≡ length out = ap length (ok_is done out h) in omega arith
+  count done (x ∷ items) out h =
+      let q = bind_ok (step done x) (λ y. each_behind step (done ++ y ∷ []) items) out h in
+      let more = count (done ++ q.0 ∷ []) items out q.2 in
+      let one = length-append done (q.0 ∷ []) in
+      omega arith
+
+some_is : {A : Type 0} (a b : A) → (let o : Option A = Some a in o ≡ Some b) → a ≡ b
+some_is a b e = cc
+
+-- what is at a place of a list with one more item
+pub at_end : {A : Type 0} (xs : List A) (y x : A) (k : ℕ) → slice_get (xs ++ y ∷ []) k ≡ Some x → ((k < length xs) × (slice_get xs k ≡ Some x)) ⊎ ((k ≡ length xs) × (y ≡ x))
+at_end [] y x zero h = inr (refl, some_is y x h)
+at_end [] y x (suc k) h = absurd cc
+at_end (z ∷ xs) y x zero h = inl (omega arith, h)
+at_end (z ∷ xs) y x (suc k) h = elim (at_end xs y x k h) [ inl p ↦ inl (omega (arith, p.0), p.1) | inr p ↦ inr (ap suc p.0, p.1) ]

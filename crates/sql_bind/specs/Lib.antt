@@ -1,0 +1,12 @@
+pub mod Conditions
+pub mod Deletes
+pub mod Expressions
+pub mod Inserts
+pub mod Items
+pub mod Names
+pub mod Orders
+pub mod Selects
+pub mod Sound
+pub mod Statements
+pub mod Steps
+pub mod Updates
