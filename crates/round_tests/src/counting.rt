@@ -1,6 +1,4 @@
 //! Last changes that count how often they are asked for.
-ghost use Rattle.geo_base.specs.declared.row_id.RowId.{RowId};
-
 use geo_base::{Epoch, RowId};
 use std::sync::atomic::{AtomicU64, Ordering};
 use write_set::Changes;
