@@ -15,7 +15,7 @@ use Rattle.geo_script.specs.inner.Words.{is_numeral, number_within}
 use Rattle.geo_script.specs.Words.{is_word}
 use Rattle.geo_script.proofs.Cuts.{Lacks}
 use Rattle.geo_script.proofs.Numerals.{all_digits}
-use Rattle.geo_script.proofs.Inversions.{if_some}
+use Rattle.schema_text.specs.laws.Inversions.{if_some}
 
 own : IsNumeralModel (AllDigits 10) (digits_value 10)
 own = numerals_by_value (AllDigits 10) tells_digits

@@ -1,7 +1,6 @@
 -- Lines that declare tables and indexes, and what is read of them.
 use Rattle.std.proofs.Common.{◌≡◌, ℕ, ◌<◌, ◌≤◌, ◌==◌, Bool, true, false, cond, List, [], ◌∷◌, ◌++◌, length, Option, Some, None, Ok, Err, nat_le, refl, sym, ap, ◌∙◌, subst, arith, inl, inr}
 use Rattle.std.specs.Prelude.{codes, is_none}
-use Rattle.std.specs.List.{slice_split}
 use Rattle.std.specs.Option.{option_map, option_and_then, ok_or}
 use Rattle.std.specs.Str.{bytes_eq, is_utf8}
 use Rattle.std.proofs.lemmas.Bool.{le-leb, ne_eqb}
@@ -9,109 +8,24 @@ use Rattle.std.proofs.lemmas.List.{length-map, length-append, get_or_at}
 use Rattle.std.proofs.lemmas.Slice.Eq.{bytes_eq-Decides}
 use Rattle.geo_base.specs.declared.limits.TheConstants.{MAX_COLUMNS}
 use Rattle.geo_base.specs.laws.Results.{bind_ok}
-use Rattle.geo_schema.specs.declared.column.ColumnDef.{ColumnDef}
 use Rattle.geo_schema.specs.declared.index.IndexDef.{IndexDef}
 use Rattle.geo_schema.specs.declared.table.TableDef.{TableDef}
-use Rattle.geo_schema.specs.Schemas.{IsSchema, shown_only, number_of}
-use Rattle.geo_schema.specs.Tables.{table_in}
+use Rattle.geo_schema.specs.Schemas.{IsSchema, shown_only}
 use Rattle.geo_schema.specs.inner.Schemas.{schema_fault}
-use Rattle.geo_script.specs.declared.column.Column.{Column}
 use Rattle.geo_script.specs.declared.fault.ScriptKind.{ScriptKind}
 use Rattle.geo_script.specs.declared.fault.ScriptKind.TheVariants.{NotUtf8, BadLine, BadTable, BadIndex}
-use Rattle.geo_script.specs.declared.mark.Mark.{Mark}
-use Rattle.geo_script.specs.declared.mark.Mark.TheVariants as mark
-use Rattle.geo_script.specs.inner.Marks.{marks_of, is_comma, is_close}
-use Rattle.geo_script.specs.Spelling.{SpellsColumn, IsNamedList, HasMarks, DeclaresTable, DeclaresIndex, AreAtPlaces, Declares}
-use Rattle.geo_script.specs.inner.TableLines.{column_of, before_close, listed, all_read, columns_of, table_of, if_schema, with_table, name_of, index_name, named_list, filled, first_word, index_parts, index_with, index_at, index_of, with_index, alone, declared, by_word, declared_by, table_line}
-use Rattle.geo_script.specs.Tables.{table_with, column_place, add_index}
+use Rattle.schema_text.specs.inner.Texts.{declared_table, index_of}
+use Rattle.schema_text.specs.Spelling.{IsIndexText}
+use Rattle.schema_text.specs.laws.Indexes.{index_text_is, index_text_read}
+use Rattle.schema_text.specs.laws.Inversions.{or_ok, if_ok, unless_ok, when_ok}
+use Rattle.schema_text.specs.laws.Names.{name_word}
+use Rattle.schema_text.specs.laws.Tables.{few_columns_at, table_text_is, table_text_read}
+use Rattle.geo_script.specs.Spelling.{DeclaresTable, DeclaresIndex, Declares}
+use Rattle.geo_script.specs.inner.TableLines.{if_schema, with_table, filled, first_word, index_parts, with_index, alone, declared, by_word, declared_by, table_line}
+use Rattle.geo_script.specs.Tables.{add_index}
 use Rattle.geo_script.specs.inner.Words.{cut}
-use Rattle.geo_script.proofs.Closing.{closing}
-use Rattle.geo_script.proofs.Columns.{column_is, column_read}
 use Rattle.geo_script.proofs.Cuts.{Lacks, cut_at, cut_parts}
-use Rattle.geo_script.proofs.Inversions.{or_ok, then_some, map_some, if_ok, unless_ok, when_ok, if_some, when_some, some_same}
-use Rattle.geo_script.proofs.NameTokens.{name_word}
-use Rattle.geo_script.proofs.SchemaTables.{few_columns_at, faultless_kept, schema_faultless}
-use Rattle.geo_script.proofs.TextMarks.{marks_are, marks_read}
-use Rattle.geo_script.proofs.MarkLists.{IsCommaFree, column_free, items_are, items_read, items_count}
-
--- ---- lists in parentheses
-
-close_is : (m : Mark) → is_close m ≡ true → m ≡ mark.Close
-close_is mark.Close is = refl
-close_is _ is = cc
-
-closes : (marks inner : List Mark) → before_close marks ≡ Some inner → marks ≡ inner ++ mark.Close ∷ []
-closes [] inner is = cc
-closes (last ∷ []) inner is =
-    let found = if_some (is_close last) [] inner is in
-    ap (λ m. m ∷ []) (close_is last found.0) ∙ ap (λ ms. ms ++ mark.Close ∷ []) found.1
-closes (first ∷ next ∷ marks) inner is =
-    let found = map_some (λ before. first ∷ before) (before_close (next ∷ marks)) inner is in
-    ap (λ ms. first ∷ ms) (closes (next ∷ marks) found.0 found.1) ∙ ap (λ ms. ms ++ mark.Close ∷ []) found.2
-
--- the marks are a list in parentheses, whose items stand between commas
-record IsListed (marks : List Mark) (parts : List (List Mark)) : Type 0 where
-  inner : List Mark
-  whole : marks ≡ mark.Open ∷ (inner ++ mark.Close ∷ [])
-  cut : slice_split is_comma inner ≡ parts
-
-listed_is : (marks : List Mark) (parts : List (List Mark)) → listed marks ≡ Some parts → IsListed marks parts
-unfolding listed
-listed_is (mark.Open ∷ marks) parts is =
-    let found = map_some (slice_split is_comma) (before_close marks) parts is in
-    record { inner = found.0; whole = ap (λ ms. mark.Open ∷ ms) (closes marks found.0 found.1); cut = found.2 }
-listed_is _ parts is = cc
-
-listed_read : (inner : List Mark) → listed (mark.Open ∷ (inner ++ mark.Close ∷ [])) ≡ Some (slice_split is_comma inner)
-unfolding listed
-listed_read inner = rw (closing inner mark.Close) refl
-
-name_is : (marks : List Mark) (name : List ℕ) → name_of marks ≡ Some name → marks ≡ mark.Name name ∷ []
-unfolding name_of
-name_is (mark.Name name ∷ []) found is = ap (λ n. mark.Name n ∷ []) (some_same is)
-name_is _ found is = cc
-
-name_read : (marks : List Mark) (name : List ℕ) → marks ≡ mark.Name name ∷ [] → name_of marks ≡ Some name
-unfolding name_of
-name_read marks name is = rw is refl
-
-name_free : (name : List ℕ) (marks : List Mark) → marks ≡ mark.Name name ∷ [] → IsCommaFree marks
-name_free name marks is = rw is refl
-
--- ---- tables
-
--- the marks are a table's name and its columns
-record IsTableOf (marks : List Mark) (table : TableDef) : Type 0 where
-  columns : List Column
-  spells : IsNamedList SpellsColumn table.name columns marks
-  is : table ≡ table_with table.name columns
-
-columns_are : (parts : List (List Mark)) (columns : List Column) → columns_of parts ≡ Some columns → all_read column_of parts ≡ Some columns
-unfolding columns_of
-columns_are parts columns is = (when_some (nat_le (length parts) MAX_COLUMNS) (all_read column_of parts) columns is).1
-
-table_is : (marks : List Mark) (table : TableDef) → table_of marks ≡ Some table → IsTableOf marks table
-unfolding table_of
-table_is (mark.Name name ∷ marks) table is =
-    let found = map_some (table_with name) (option_and_then columns_of (listed marks)) table is in
-    let parts = then_some columns_of (listed marks) found.0 found.1 in
-    let list = listed_is marks parts.0 parts.1 in
-    let columns = columns_are parts.0 found.0 parts.2 in
-    let items = items_are column_of SpellsColumn column_is list.inner found.0 (ap (all_read column_of) list.cut ∙ columns) in
-    subst (IsTableOf (mark.Name name ∷ marks)) found.2 record {
-      columns = found.0;
-      spells = (list.inner, ap (λ ms. mark.Name name ∷ ms) list.whole, items);
-      is = refl;
-    }
-table_is _ table is = cc
-
-table_read : (name : List ℕ) (columns : List Column) (marks : List Mark) → IsNamedList SpellsColumn name columns marks → length columns ≤ MAX_COLUMNS →
-    table_of marks ≡ Some (table_with name columns)
-unfolding table_of columns_of
-table_read name columns marks (inner, whole, items) few =
-    let count = items_count column_of SpellsColumn column_free columns inner items in
-    let fits : nat_le (length (slice_split is_comma inner)) MAX_COLUMNS ≡ true = le-leb (length (slice_split is_comma inner)) MAX_COLUMNS (omega arith) in
-    rw whole (rw (listed_read inner) (rw (fits, items_read column_of SpellsColumn column_read column_free columns inner items) refl))
+use Rattle.geo_script.proofs.SchemaTables.{faultless_kept, schema_faultless}
 
 -- ---- schemas
 
@@ -133,34 +47,22 @@ table_declared : (tables : List TableDef) (text : List ℕ) (more : List TableDe
     Declares tables (codes "table " ++ text) more × IsSchema (shown_only more)
 unfolding with_table
 table_declared tables text more is =
-    let found = bind_ok (ok_or (option_and_then table_of (marks_of text)) BadTable) _ more is in
-    let marks = then_some table_of (marks_of text) found.0 (or_ok (option_and_then table_of (marks_of text)) BadTable found.0 found.1) in
-    let table = table_is marks.0 found.0 marks.2 in
+    let found = bind_ok (ok_or (declared_table text) BadTable) _ more is in
+    let table = table_text_is text found.0 (or_ok (declared_table text) BadTable found.0 found.1) in
     let kept = kept_is BadTable (tables ++ found.0 ∷ []) more found.2 in
-    let declares : DeclaresTable (codes "table " ++ text) found.0 = record {
-      text = text;
-      marks = marks.0;
-      columns = table.columns;
-      cut = refl;
-      tokens = marks_are text marks.0 marks.1;
-      spells = table.spells;
-      is = table.is;
-    } in
+    let declares : DeclaresTable (codes "table " ++ text) found.0 = record { text = text; cut = refl; spells = table.0 } in
     (inl (found.0, declares, sym kept.same), kept.schema)
 
-few_declared : (tables : List TableDef) (table : TableDef) (columns : List Column) → table ≡ table_with table.name columns → IsSchema (shown_only (tables ++ table ∷ [])) → length columns ≤ MAX_COLUMNS
-few_declared tables table columns is schema =
-    let few = few_columns_at (tables ++ table ∷ []) (length tables) table schema (omega (arith, length-append tables (table ∷ []))) (sym (get_or_at tables table [] table (length tables) refl)) in
-    let count : length table.columns ≡ length columns = ap (λ (t : TableDef). length t.columns) is ∙ length-map columns (λ (c : Column). c.def) in
-    omega arith
+few_declared : (tables : List TableDef) (table : TableDef) → IsSchema (shown_only (tables ++ table ∷ [])) → length table.columns ≤ MAX_COLUMNS
+few_declared tables table schema =
+    few_columns_at (tables ++ table ∷ []) (length tables) table schema (omega (arith, length-append tables (table ∷ []))) (sym (get_or_at tables table [] table (length tables) refl))
 
 table_line_read : (tables : List TableDef) (line : List ℕ) (table : TableDef) → DeclaresTable line table → IsSchema (shown_only (tables ++ table ∷ [])) →
     declared_by tables line ≡ Ok (tables ++ table ∷ [])
 unfolding declared_by with_table
 table_line_read tables line table is schema =
-    let few = few_declared tables table is.columns is.is schema in
-    let read = table_read table.name is.columns is.marks is.spells few in
-    rw is.cut (rw (cut_at 32 (codes "table") is.text refl) (rw (marks_read is.text is.marks is.tokens) (rw (read, sym is.is) (kept_read BadTable (tables ++ table ∷ []) schema))))
+    let read = table_text_read is.text table is.spells (few_declared tables table schema) in
+    rw is.cut (rw (cut_at 32 (codes "table") is.text refl) (rw read (kept_read BadTable (tables ++ table ∷ []) schema)))
 
 -- ---- lines that declare indexes
 
@@ -206,91 +108,36 @@ unfolding index_parts
 parts_read word rest some lacks =
     rw (word_read word (codes "on " ++ rest) some lacks) (rw (word_read (codes "on") rest (omega arith) refl) refl)
 
-index_name_is : (word name : List ℕ) → index_name word ≡ Some name → HasMarks name (mark.Name name ∷ []) × (word ≡ name)
-unfolding index_name
-index_name_is word name is =
-    let found = then_some _ (option_and_then name_of (marks_of word)) name is in
-    let kept = if_some (bytes_eq found.0 word) found.0 name found.2 in
-    let same : found.0 ≡ word = (bytes_eq-Decides found.0 word).0 kept.0 in
-    let marks = then_some name_of (marks_of word) found.0 found.1 in
-    let shape = name_is marks.0 found.0 marks.2 in
-    let word_is_name : word ≡ name = sym same ∙ kept.1 in
-    let has = subst (HasMarks word) (shape ∙ ap (λ n. mark.Name n ∷ []) kept.1) (marks_are word marks.0 marks.1) in
-    (subst (λ w. HasMarks w (mark.Name name ∷ [])) word_is_name has, word_is_name)
-
-index_name_read : (name : List ℕ) → HasMarks name (mark.Name name ∷ []) → index_name name ≡ Some name
-unfolding index_name name_of
-index_name_read name has = rw (marks_read name (mark.Name name ∷ []) has) (rw ((bytes_eq-Decides name name).1 refl) refl)
-
-named_is : (marks : List Mark) (list : List ℕ × List (List ℕ)) → named_list marks ≡ Some list → IsNamedList (λ name m. m ≡ mark.Name name ∷ []) list.0 list.1 marks
-unfolding named_list
-named_is (mark.Name name ∷ marks) list is =
-    let IsItem : List ℕ → List Mark → Type 0 = λ n m. m ≡ mark.Name n ∷ [] in
-    let found = map_some (λ names. (name, names)) (option_and_then (all_read name_of) (listed marks)) list is in
-    let parts = then_some (all_read name_of) (listed marks) found.0 found.1 in
-    let in' = listed_is marks parts.0 parts.1 in
-    let items = items_are name_of IsItem name_is in'.inner found.0 (ap (all_read name_of) in'.cut ∙ parts.2) in
-    subst (λ (l : List ℕ × List (List ℕ)). IsNamedList IsItem l.0 l.1 (mark.Name name ∷ marks)) found.2 (in'.inner, ap (λ ms. mark.Name name ∷ ms) in'.whole, items)
-named_is _ list is = cc
-
-named_read : (name : List ℕ) (names : List (List ℕ)) (marks : List Mark) → IsNamedList (λ n m. m ≡ mark.Name n ∷ []) name names marks → named_list marks ≡ Some (name, names)
-unfolding named_list
-named_read name names marks (inner, whole, items) =
-    rw whole (rw (listed_read inner) (rw (items_read name_of (λ n m. m ≡ mark.Name n ∷ []) name_read name_free names inner items) refl))
-
-places_are : (columns : List ColumnDef) (names : List (List ℕ)) (places : List ℕ) → all_read (column_place columns) names ≡ Some places → AreAtPlaces columns names places
-places_are columns [] places is = subst (AreAtPlaces columns []) (some_same is) tt
-places_are columns (name ∷ names) places is =
-    let first = then_some _ (column_place columns name) places is in
-    let more = map_some (λ others. first.0 ∷ others) (all_read (column_place columns) names) places first.2 in
-    subst (AreAtPlaces columns (name ∷ names)) more.2 (first.1, places_are columns names more.0 more.1)
-
-places_read : (columns : List ColumnDef) (names : List (List ℕ)) (places : List ℕ) → AreAtPlaces columns names places → all_read (column_place columns) names ≡ Some places
-places_read columns [] [] are = refl
-places_read columns [] (place ∷ places) are = absurd are
-places_read columns (name ∷ names) [] are = absurd are
-places_read columns (name ∷ names) (place ∷ places) are = rw are.0 (rw (places_read columns names places are.1) refl)
+-- the index that is read of the parts of a text
+index_added : (tables : List TableDef) (text name rest : List ℕ) (found : ℕ × IndexDef) → IsOnLine text name rest → index_of tables name rest ≡ Some found →
+    DeclaresIndex tables (codes "index " ++ text) found.0 found.1
+index_added tables text name rest found on is =
+    let read = index_text_is tables name rest found.0 found.1 is in
+    record {
+      text = rest;
+      cut = ap (λ w. codes "index " ++ w) (on.whole ∙ ap (λ w. w ++ (codes " on " ++ rest)) (sym read.0));
+      spells = read.1;
+    }
 
 index_declared : (tables : List TableDef) (text : List ℕ) (more : List TableDef) → with_index tables text ≡ Ok more →
     Declares tables (codes "index " ++ text) more × IsSchema (shown_only more)
-unfolding with_index index_of index_at
+unfolding with_index
 index_declared tables text more is =
     let parts = bind_ok (index_parts text) _ more is in
     let on = parts_are text parts.0 parts.1 in
     let found = bind_ok (ok_or (index_of tables parts.0.0 parts.0.1) BadIndex) _ more parts.2 in
-    let name = then_some _ (index_name parts.0.0) found.0 (or_ok (index_of tables parts.0.0 parts.0.1) BadIndex found.0 found.1) in
-    let named = index_name_is parts.0.0 name.0 name.1 in
-    let list = then_some _ (option_and_then named_list (marks_of parts.0.1)) found.0 name.2 in
-    let marks = then_some named_list (marks_of parts.0.1) list.0 list.1 in
-    let at = then_some _ (number_of tables list.0.0) found.0 list.2 in
-    let made = map_some (λ index. (at.0, index)) (option_map (index_with name.0) (all_read (column_place (table_in tables at.0).columns) list.0.1)) found.0 at.2 in
-    let places = map_some (index_with name.0) (all_read (column_place (table_in tables at.0).columns) list.0.1) made.0 made.1 in
+    let declares = index_added tables text parts.0.0 parts.0.1 found.0 on (or_ok (index_of tables parts.0.0 parts.0.1) BadIndex found.0 found.1) in
     let kept = kept_is BadIndex (add_index tables found.0.0 found.0.1) more found.2 in
-    let declares : DeclaresIndex tables (codes "index " ++ text) at.0 (index_with name.0 places.0) = record {
-      text = parts.0.1;
-      marks = marks.0;
-      table = list.0.0;
-      columns = list.0.1;
-      cut = ap (λ w. codes "index " ++ w) (on.whole ∙ ap (λ w. w ++ (codes " on " ++ parts.0.1)) named.1);
-      name = named.0;
-      tokens = marks_are parts.0.1 marks.0 marks.1;
-      spells = named_is marks.0 list.0 marks.2;
-      found = at.1;
-      places = places_are (table_in tables at.0).columns list.0.1 places.0 places.1;
-    } in
-    let same : (at.0, index_with name.0 places.0) ≡ found.0 = ap (λ i. (at.0, i)) places.2 ∙ made.2 in
-    let added : add_index tables at.0 (index_with name.0 places.0) ≡ more = ap (λ (p : ℕ × IndexDef). add_index tables p.0 p.1) same ∙ kept.same in
-    (inr (at.0, index_with name.0 places.0, declares, sym added), kept.schema)
+    (inr (found.0.0, found.0.1, declares, sym kept.same), kept.schema)
 
 index_line_read : (tables : List TableDef) (line : List ℕ) (at : ℕ) (index : IndexDef) → DeclaresIndex tables line at index → IsSchema (shown_only (add_index tables at index)) →
     declared_by tables line ≡ Ok (add_index tables at index)
-unfolding declared_by with_index index_of index_at
+unfolding declared_by with_index
 index_line_read tables line at index is schema =
-    let word = name_word index.name is.name in
+    let word = name_word index.name is.spells.name in
     rw is.cut (rw (cut_at 32 (codes "index") (index.name ++ (codes " on " ++ is.text)) refl)
-    (rw (parts_read index.name is.text word.some word.lacks) (rw (index_name_read index.name is.name)
-    (rw (marks_read is.text is.marks is.tokens) (rw (named_read is.table is.columns is.marks is.spells) (rw is.found
-    (rw (places_read (table_in tables at).columns is.columns index.columns is.places) (kept_read BadIndex (add_index tables at index) schema))))))))
+    (rw (parts_read index.name is.text word.some word.lacks) (rw (index_text_read tables is.text at index is.spells)
+    (kept_read BadIndex (add_index tables at index) schema))))
 
 -- ---- whole lines
 
@@ -351,3 +198,7 @@ head_line_read tables line more is = rw is.utf8 (by is.declares)
 pub begin_declares_nothing : (tables more : List TableDef) → Declares tables (codes "begin") more → ⊥
 begin_declares_nothing tables more (inl (table, declares, same)) = cc (declares.cut)
 begin_declares_nothing tables more (inr (at, index, declares, same)) = cc (declares.cut)
+
+-- a line that declares leaves a schema
+pub line_leaves_schema : (tables : List TableDef) (line : List ℕ) (more : List TableDef) → table_line tables line ≡ Ok more → IsSchema (shown_only more)
+line_leaves_schema tables line more is = (head_line_is tables line more is).schema

@@ -16,7 +16,7 @@ use Rattle.geo_script.specs.inner.Words.{cut, two_words, three_words}
 use Rattle.geo_script.proofs.Cuts.{cut_at, cut_parts, two, three, word_lacks}
 use Rattle.geo_script.proofs.EventsRead.{no_word, crash_words_read, after_read}
 use Rattle.geo_script.proofs.PlayLines.{sealing_is}
-use Rattle.geo_script.proofs.Inversions.{then_some, if_some, when_some}
+use Rattle.schema_text.specs.laws.Inversions.{then_some, if_some, when_some}
 
 -- ---- statements
 

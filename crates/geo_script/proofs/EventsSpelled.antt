@@ -21,7 +21,7 @@ use Rattle.geo_script.specs.inner.Past.{RunPast, has_crash, has_session}
 use Rattle.geo_base.specs.Results.{◌>>=◌}
 use Rattle.geo_script.specs.inner.Words.{three_words}
 use Rattle.geo_script.proofs.VerbTexts.{verb_parts}
-use Rattle.geo_script.proofs.Inversions.{or_ok, then_some, if_ok, unless_ok, when_ok, if_some}
+use Rattle.schema_text.specs.laws.Inversions.{or_ok, then_some, if_ok, unless_ok, when_ok, if_some}
 use Rattle.geo_script.proofs.PlayLines.{IsRegions, Asks, number_is, region_is, three_are, sql_asks, outcome_asks, seal_asks, publish_asks, show_asks, restart_asks, deliver_asks, fetch_asks, work_asks, crash_asks}
 
 -- ---- runs

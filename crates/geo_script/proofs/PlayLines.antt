@@ -25,7 +25,7 @@ use Rattle.geo_script.specs.inner.Words.{cut, two_words, three_words, number_wit
 use Rattle.geo_script.specs.Words.{is_word}
 use Rattle.geo_script.proofs.Cuts.{cut_parts}
 use Rattle.geo_script.proofs.Decimals.{SpellsWithin, number_spelled}
-use Rattle.geo_script.proofs.Inversions.{or_ok, then_some, if_ok, unless_ok, when_ok, if_some, when_some}
+use Rattle.schema_text.specs.laws.Inversions.{or_ok, then_some, if_ok, unless_ok, when_ok, if_some, when_some}
 
 -- a number of regions
 pub record IsRegions (regions : ℕ) : Type 0 where

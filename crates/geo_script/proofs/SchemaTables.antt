@@ -1,23 +1,16 @@
--- What tables of a schema have, and that tables without a fault are a schema.
-use Rattle.std.proofs.Common.{◌≡◌, ℕ, ◌<◌, ◌≤◌, true, false, [], List, length, get_or, Option, Some, None, refl}
+-- That tables without a fault are a schema.
+use Rattle.std.proofs.Common.{◌≡◌, true, false, [], List, Option, Some, None, refl}
 use Rattle.std.specs.Prelude.{is_none}
-use Rattle.geo_base.specs.declared.limits.TheConstants.{MAX_COLUMNS}
 use Rattle.geo_schema.specs.declared.fault.SchemaFault.{SchemaFault}
 use Rattle.geo_schema.specs.declared.table.TableDef.{TableDef}
 use Rattle.geo_schema.specs.Schemas.{IsSchema, IsSchemaFault, shown_only}
 use Rattle.geo_schema.specs.inner.Schemas.{schema_fault}
-use Rattle.geo_schema.specs.laws.Rules.{keeps_rules, few_columns}
 use Rattle.geo_schema.specs.laws.Schemas.{is_schema, no_fault, schema_fault_is}
 
 -- no tables are a schema
-pub no_tables : IsSchema (shown_only [])
+pub no_tables_yet : (tables : List TableDef) → tables ≡ [] → IsSchema (shown_only tables)
 unfolding schema_fault
-no_tables = is_schema (shown_only []) refl
-
--- each table of a schema has few columns
-pub few_columns_at : (tables : List TableDef) (at : ℕ) (table : TableDef) → IsSchema (shown_only tables) → at < length tables → table ≡ get_or tables at table →
-    length table.columns ≤ MAX_COLUMNS
-few_columns_at tables at table schema within here = few_columns table (keeps_rules (shown_only tables) at table schema within here)
+no_tables_yet tables none = rw none (is_schema (shown_only []) refl)
 
 none_is : {A : Type 0} (o : Option A) → is_none o ≡ true → o ≡ None
 none_is None is = refl

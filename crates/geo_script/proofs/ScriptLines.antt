@@ -33,7 +33,7 @@ use Rattle.geo_script.proofs.Declarations.{head_line_is, head_line_read, begin_d
 use Rattle.geo_script.proofs.EventsRead.{line_read}
 use Rattle.geo_script.proofs.EventsSpelled.{line_asks}
 use Rattle.geo_script.proofs.PlayLines.{IsRegions, number_is}
-use Rattle.geo_script.proofs.Inversions.{or_ok, if_ok, when_ok}
+use Rattle.schema_text.specs.laws.Inversions.{or_ok, if_ok, when_ok}
 use Rattle.geo_script.proofs.Runs.{AreAdmitted, lawful_from, admitted_from}
 
 pub at_ok : {A : Type 0} (line : ℕ) (r : OfLine A) (x : A) → at line r ≡ Ok x → r ≡ Ok x

@@ -9,7 +9,7 @@ use Rattle.geo_script.specs.EventWords.{verb_text}
 use Rattle.geo_script.specs.inner.Verbs.{verbs, verb_in, verb_of}
 use Rattle.geo_script.specs.inner.Words.{cut}
 use Rattle.geo_script.proofs.Cuts.{Lacks, cut_at, cut_parts}
-use Rattle.geo_script.proofs.Inversions.{then_some}
+use Rattle.schema_text.specs.laws.Inversions.{then_some}
 
 verb_read : (verb : Verb) → verb_of (verb_text verb) ≡ Some verb
 unfolding verb_of verbs

@@ -2,7 +2,7 @@
 use Rattle.std.proofs.Common.{◌≡◌, ◌≢◌, ℕ, ◌<◌, ◌==◌, Bool, true, false, cond, List, [], ◌∷◌, ◌++◌, length, Option, Some, None, Ok, Err, refl, sym, ap, ◌∙◌, subst, arith, inl, inr, ◌⊎◌, not}
 use Rattle.std.specs.Prelude.{codes, is_none, IsUtf8}
 use Rattle.std.specs.List.{list_all}
-use Rattle.std.specs.Option.{option_and_then, ok_or}
+use Rattle.std.specs.Option.{ok_or}
 use Rattle.std.specs.Str.{bytes_eq, is_utf8}
 use Rattle.std.proofs.lemmas.Bool.{and_parts, eqb-true, eqb-false, not-true}
 use Rattle.std.proofs.lemmas.List.{append_assoc}
@@ -16,15 +16,15 @@ use Rattle.geo_script.specs.declared.fault.ScriptKind.{ScriptKind}
 use Rattle.geo_script.specs.declared.fault.ScriptKind.TheVariants.{NotUtf8, BadTable, BadIndex, BadLine}
 use Rattle.geo_script.specs.inner.EventLines.{OfLine}
 use Rattle.geo_script.specs.Words.{IsWord, is_word}
-use Rattle.geo_script.specs.inner.Marks.{marks_of}
-use Rattle.geo_script.specs.inner.TableLines.{table_of, with_table, filled, first_word, index_parts, index_of, with_index, by_word, declared_by, table_line}
+use Rattle.schema_text.specs.inner.Texts.{declared_table, index_of}
+use Rattle.geo_script.specs.inner.TableLines.{with_table, filled, first_word, index_parts, with_index, by_word, declared_by, table_line}
 use Rattle.geo_script.specs.Tables.{add_index}
 use Rattle.geo_script.specs.inner.Words.{cut}
 use Rattle.geo_script.specs.Wrongs.{Begins, HasEmptyWord, CanStand, IsWrongDeclaration}
 use Rattle.geo_script.proofs.Cuts.{Lacks, cut_at, cut_nowhere, cut_parts, word_lacks}
 use Rattle.geo_script.proofs.Declarations.{word_read, head_line_is, head_line_read}
 use Rattle.geo_script.proofs.Failures.{or_err, if_err, when_err, unless_err, no_both}
-use Rattle.geo_script.proofs.Inversions.{unless_ok}
+use Rattle.schema_text.specs.laws.Inversions.{unless_ok}
 use Rattle.geo_script.proofs.WrongHeads.{other_text, no_text, other_bytes, bytes_differ}
 
 -- ---- empty words
@@ -191,8 +191,8 @@ heading_begins word line (Some parts) is same = inr (parts.1, (cut_parts 32 line
 table_bad : (tables : List TableDef) (text : List ℕ) (kind : ScriptKind) → with_table tables text ≡ Err kind → BadTable ≡ kind
 unfolding with_table
 table_bad tables text kind is =
-    elim (failed (ok_or (option_and_then table_of (marks_of text)) BadTable) _ kind is) [
-      | inl none ↦ (or_err (option_and_then table_of (marks_of text)) BadTable kind none).1
+    elim (failed (ok_or (declared_table text) BadTable) _ kind is) [
+      | inl none ↦ (or_err (declared_table text) BadTable kind none).1
       | inr found ↦
           let all : List TableDef = tables ++ found.0 ∷ [] in
           (if_err (is_none (schema_fault (shown_only all))) all BadTable kind found.2).1

@@ -29,7 +29,7 @@ use Rattle.geo_script.proofs.EventsSpelled.{sql_is}
 use Rattle.geo_script.proofs.PlayLines.{IsRegions, Asks, place_is, region_is, sql_asks}
 use Rattle.geo_script.proofs.Failures.{or_err, option_err, if_err, when_err, unless_err, no_option}
 use Rattle.geo_script.proofs.SoFar.{SoFar}
-use Rattle.geo_script.proofs.Inversions.{or_ok, when_ok}
+use Rattle.schema_text.specs.laws.Inversions.{or_ok, when_ok}
 
 -- ---- numbers
 

@@ -21,7 +21,7 @@ use Rattle.geo_script.specs.Wrongs.{IsWrongTitle, HasCount, CountsRegions, IsWro
 use Rattle.geo_script.proofs.Cuts.{cut_at, cut_parts}
 use Rattle.geo_script.proofs.PlayLines.{number_is}
 use Rattle.geo_script.proofs.Failures.{or_err, if_err, when_err, no_both}
-use Rattle.geo_script.proofs.Inversions.{or_ok, if_ok}
+use Rattle.schema_text.specs.laws.Inversions.{or_ok, if_ok}
 use Rattle.geo_script.proofs.ScriptLines.{regions_read}
 
 pub other_text : (line : List ℕ) → (IsUtf8 line → ⊥) → is_utf8 line ≡ false

@@ -29,7 +29,7 @@ use Rattle.geo_script.proofs.Decimals.{decimal_word}
 use Rattle.geo_script.proofs.EventsRead.{at_word, place_word, place_read, region_read, after_read, sql_read, line_read}
 use Rattle.geo_script.proofs.EventsSpelled.{line_asks}
 use Rattle.geo_script.proofs.Failures.{option_err, when_err, no_both, no_option, err_same}
-use Rattle.geo_script.proofs.Inversions.{or_ok}
+use Rattle.schema_text.specs.laws.Inversions.{or_ok}
 use Rattle.geo_script.proofs.PlayLines.{IsRegions}
 use Rattle.geo_script.proofs.SoFar.{SoFar}
 use Rattle.geo_script.proofs.VerbTexts.{behind_verb, verb_parts}

@@ -1,7 +1,6 @@
 pub mod Lines
 pub mod Words
 pub mod EventWords
-pub mod Marks
 pub mod Tables
 pub mod Spelling
 pub mod Wrongs

@@ -4,7 +4,6 @@ pub mod Words
 pub mod Verbs
 pub mod Past
 pub mod EventLines
-pub mod Marks
 pub mod TableLines
 pub mod Scripts
 pub mod Answers

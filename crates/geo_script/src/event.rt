@@ -13,7 +13,7 @@ pub enum Sealing {
 }
 
 /// What a line of a script asks for. Regions are below the script's number of them, and sessions 0 to 63.
-#[derive(Debug, Drop, PartialEq, Eq)]
+#[derive(Drop)]
 pub enum Event {
     /// A session of the region runs a statement of 1 to 16,384 bytes.
     Sql {

@@ -8,12 +8,10 @@
 //! exactly the scripts and the faults that are there.
 #![tactic(auto)]
 
-mod column;
 mod event;
 mod fault;
 mod laws;
 pub mod limits;
-mod mark;
 mod past;
 mod reading;
 mod script;

@@ -10,7 +10,6 @@ ghost use Rattle.geo_script.specs.Lines.{lines_of};
 ghost use Rattle.geo_script.specs.inner.Scripts as spec;
 ghost use Rattle.geo_script.specs.Spelling.{IsScriptText};
 
-mod column;
 mod declared;
 mod event_line;
 mod event_words;
@@ -18,7 +17,6 @@ mod events;
 mod head;
 mod index;
 mod lines;
-mod listed;
 mod table;
 mod words;
 
@@ -81,14 +79,15 @@ fn read_lines(alloc: Global, form: Form, bytes: &[u8]) -> Result<Script, ScriptR
 }
 
 /// The script of the lines behind the first two, for this number of regions.
-#[tactic(auto, unfolding(crate::specs::inner::Scripts::body_of))]
+#[tactic(auto, using(crate::proofs::SchemaTables::no_tables_yet), unfolding(crate::specs::inner::Scripts::body_of))]
 fn read_body(alloc: Global, form: Form, regions: u8, bytes: &[u8]) -> Result<Script, ScriptRefusal>
     requires regions { 1 ≤ regions }
     requires short { length bytes.now ≤ SCRIPT_BYTES }
     ensures { Answers (λ script. script) result (spec.body_of form regions (lines_of bytes.now)) }
 {
     let rest = Rest { bytes, number: 3 };
-    let (tables, rest) = read_tables(alloc, rest)?;
+    let mut tables = Vec::new(alloc);
+    let rest = read_tables(alloc, rest, &mut tables)?;
     let events = read_events(alloc, form, regions, rest)?;
     Ok(Script {
         regions,

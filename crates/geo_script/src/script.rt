@@ -12,7 +12,7 @@ pub enum Form {
 }
 
 /// An event and the number of its line, counted from 1.
-#[derive(Debug, Drop, PartialEq, Eq)]
+#[derive(Drop)]
 pub struct EventAt {
     /// From 4 on: a head has at least three lines.
     pub line: u32,
@@ -24,7 +24,7 @@ pub struct EventAt {
 pub type EventAtList = Many<EventAt>;
 
 /// A script that was read.
-#[derive(Debug, Drop)]
+#[derive(Drop)]
 pub struct Script {
     /// How many regions there are, 1 to 8.
     pub regions: u8,

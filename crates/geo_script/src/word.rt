@@ -1,12 +1,9 @@
-ghost use Rattle.std.specs.Prelude.{◌≡◌, nat_eq, string_bytes};
-ghost use Rattle.std.specs.Cmp.Lexicographic.{pointwise};
-ghost use Rattle.std.specs.Cmp.Rules.{comparing};
-ghost use Rattle.std.proofs.Common.{rules};
+ghost use Rattle.std.specs.Prelude.{◌≡◌, string_bytes};
 
 use std::marker::Model;
 
 /// A text of any length, as a statement is typed. Contracts see its bytes.
-#[derive(Debug, Drop)]
+#[derive(Drop)]
 pub struct Word {
     text: String,
 }
@@ -33,18 +30,4 @@ impl Word {
     {
         self.text.as_str()
     }
-}
-
-impl PartialEq for Word {
-    ghost eq = { pointwise nat_eq };
-
-    ghost laws = { Prim.search (comparing, rules) };
-
-    fn eq(&self, other: &Word) -> bool {
-        self.text.as_str() == other.text.as_str()
-    }
-}
-
-impl Eq for Word {
-    ghost laws = { Prim.search (comparing, rules) };
 }

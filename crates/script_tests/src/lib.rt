@@ -1,7 +1,7 @@
 //! Tests of the reader of scripts: lines of each form and lines that are none, and where a text that is no
 //! script is refused.
 //!
-//! They use only what `geo_script` offers. What is wanted is worked by hand from the language of scripts.
+//! They use only what `geo_script` offers, and `schema_text` below it. What is wanted is worked by hand from the language of scripts.
 #![tactic(auto)]
 
 #[cfg(test)]
@@ -16,5 +16,7 @@ mod seen;
 mod statements;
 #[cfg(test)]
 mod tables;
+#[cfg(test)]
+mod texts;
 #[cfg(test)]
 mod whole;

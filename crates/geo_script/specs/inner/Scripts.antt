@@ -1,5 +1,5 @@
 -- Inner: how a text is read, line by line, up to the first bad one.
-use Rattle.std.specs.Prelude.{ℕ, ◌+◌, ◌&&◌, nat_le, if◌then◌else◌, List, [], ◌∷◌, length, codes, ok_or, Result, Ok, Err}
+use Rattle.std.specs.Prelude.{ℕ, ◌+◌, ◌&&◌, nat_le, if◌then◌else◌, List, [], ◌∷◌, ◌++◌, length, codes, ok_or, Result, Ok, Err}
 use Rattle.std.specs.Str.{bytes_eq, is_utf8}
 use Rattle.geo_base.specs.declared.limits.TheConstants.{MAX_REGIONS, SCRIPT_BYTES}
 use Rattle.geo_schema.specs.declared.table.TableDef.{TableDef}
@@ -65,6 +65,10 @@ events_of form regions past [] = Ok []
 events_of form regions past (line ∷ lines) =
     at line.0 (event_line form regions past line.1) >>= λ event.
     (events_of form regions (next_past form past event) lines >>= λ events. Ok (record { line = line.0; event = event } ∷ events))
+
+-- what was read, and then what each other line is
+abbrev pub behind : List EventAt → Checked (List EventAt) → Checked (List EventAt)
+behind read more = more >>= λ events. Ok (read ++ events)
 
 -- ---- the whole
 

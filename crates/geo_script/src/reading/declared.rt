@@ -7,9 +7,9 @@ ghost use Rattle.geo_script.specs.inner.Scripts.{head_of};
 ghost use Rattle.geo_script.specs.inner.TableLines as spec;
 
 use crate::fault::{ScriptKind, ScriptRefusal, bad};
-use crate::reading::index::with_index;
+use crate::reading::index::declare_index;
 use crate::reading::lines::{Rest, next_spoken, text_of};
-use crate::reading::table::with_table;
+use crate::reading::table::declare_table;
 use crate::reading::words::cut_at_space;
 use geo_base::NoMemory;
 use geo_schema::TableDef;
@@ -28,48 +28,46 @@ fn alone(word: &str) -> ScriptKind
     }
 }
 
-/// The tables with what the text declares.
+/// Adds what the text declares to the tables. Of tables that are refused nothing is known.
 #[tactic(auto, unfolding(crate::specs::inner::TableLines::declared_by))]
-fn declared_by(
+fn declare(
     alloc: Global,
-    tables: Vec<TableDef>,
+    tables: &mut Vec<TableDef>,
     text: &str,
-) -> Result<Result<Vec<TableDef>, ScriptKind>, NoMemory>
+) -> Result<Result<(), ScriptKind>, NoMemory>
     requires text { length text.now < 2 ^ 32 }
-    requires schema { IsSchema (shown_only tables.items) }
-    ensures tables { IfOk result (λ found. MatchResult found
-        (λ more. spec.declared_by tables.items text.now ≡ Ok more.items)
-        (λ fault. spec.declared_by tables.items text.now ≡ Err fault)) }
-    ensures schema { IfOk result (λ found. IfOk found (λ more. IsSchema (shown_only more.items))) }
+    requires schema { IsSchema (shown_only tables.old.items) }
+    ensures { IfOk result (λ found. MatchResult found
+        (λ _. spec.declared_by tables.old.items text.now ≡ Ok tables.new.items)
+        (λ fault. spec.declared_by tables.old.items text.now ≡ Err fault)) }
 {
     let Some((word, rest)) = cut_at_space(text) else {
         return Ok(Err(alone(text)));
     };
     if word == "table" {
-        with_table(alloc, tables, rest)
+        declare_table(alloc, tables, rest)
     } else if word == "index" {
-        with_index(alloc, tables, rest)
+        declare_index(alloc, tables, rest)
     } else {
         Ok(Err(ScriptKind::BadLine))
     }
 }
 
-/// The tables with what the line declares.
+/// Adds what the line declares to the tables. Of tables that are refused nothing is known.
 #[tactic(auto, unfolding(crate::specs::inner::TableLines::table_line))]
-fn table_line(
+fn declare_line(
     alloc: Global,
-    tables: Vec<TableDef>,
+    tables: &mut Vec<TableDef>,
     line: &[u8],
-) -> Result<Result<Vec<TableDef>, ScriptKind>, NoMemory>
+) -> Result<Result<(), ScriptKind>, NoMemory>
     requires line { length line.now < 2 ^ 32 }
-    requires schema { IsSchema (shown_only tables.items) }
-    ensures tables { IfOk result (λ found. MatchResult found
-        (λ more. spec.table_line tables.items line.now ≡ Ok more.items)
-        (λ fault. spec.table_line tables.items line.now ≡ Err fault)) }
-    ensures schema { IfOk result (λ found. IfOk found (λ more. IsSchema (shown_only more.items))) }
+    requires schema { IsSchema (shown_only tables.old.items) }
+    ensures { IfOk result (λ found. MatchResult found
+        (λ _. spec.table_line tables.old.items line.now ≡ Ok tables.new.items)
+        (λ fault. spec.table_line tables.old.items line.now ≡ Err fault)) }
 {
     match text_of(line) {
-        Ok(text) => declared_by(alloc, tables, text),
+        Ok(text) => declare(alloc, tables, text),
         Err(kind) => Ok(Err(kind)),
     }
 }
@@ -81,30 +79,32 @@ fn is_begin(line: &[u8]) -> bool
     line == b"begin".as_slice()
 }
 
-/// The tables of all lines up to `begin`, and the rest behind that line.
-pub(crate) fn read_tables(
+/// Adds what all lines up to `begin` declare to the tables, and answers the rest behind that line. Of tables that
+/// are refused nothing is known.
+#[tactic(auto, using(crate::proofs::Declarations::line_leaves_schema))]
+pub(crate) fn read_tables<'a>(
     alloc: Global,
-    rest: Rest<'_>,
-) -> Result<(Vec<TableDef>, Rest<'_>), ScriptRefusal>
-    requires { rest.number + length rest.bytes.now < 2 ^ 32 }
-    ensures head { Answers (λ head. (head.0.items, spoken head.1)) result (head_of (number_after rest.entry) [] (spoken rest.entry)) }
-    ensures schema { IfOk result (λ head. IsSchema (shown_only head.0.items)) }
-    ensures room { IfOk result (λ head. head.1.number + length head.1.bytes.now < 2 ^ 32) }
+    rest: Rest<'a>,
+    tables: &mut Vec<TableDef>,
+) -> Result<Rest<'a>, ScriptRefusal>
+    requires room { rest.number + length rest.bytes.now < 2 ^ 32 }
+    requires schema { IsSchema (shown_only tables.old.items) }
+    ensures head { Answers (λ behind. (tables.new.items, spoken behind)) result (head_of (number_after rest.entry) tables.old.items (spoken rest.entry)) }
+    ensures schema { IfOk result (λ _. IsSchema (shown_only tables.new.items)) }
+    ensures room { IfOk result (λ behind. behind.number + length behind.bytes.now < 2 ^ 32) }
 {
-    let mut tables = Vec::new(alloc);
-    let mut behind = rest;
+    let mut ahead = rest;
     loop {
-        let next = match next_spoken(behind) {
+        let next = match next_spoken(ahead) {
             Ok(next) => next,
             Err(after) => return Err(bad(after, ScriptKind::MissingBegin)),
         };
         if is_begin(next.line) {
-            return Ok((tables, next.rest));
+            return Ok(next.rest);
         }
-        tables = match table_line(alloc, tables, next.line)? {
-            Ok(more) => more,
-            Err(kind) => return Err(bad(next.number, kind)),
-        };
-        behind = next.rest;
+        if let Err(kind) = declare_line(alloc, tables, next.line)? {
+            return Err(bad(next.number, kind));
+        }
+        ahead = next.rest;
     }
 }

@@ -5,7 +5,7 @@ ghost use Rattle.geo_script.specs.inner.Answers.{Answers, spoken};
 ghost use Rattle.geo_script.specs.inner.EventLines as spec;
 ghost use Rattle.geo_script.specs.declared.verb.Verb.TheVariants.{Sql};
 ghost use Rattle.geo_script.specs.inner.Past.{nothing_yet, next_past};
-ghost use Rattle.geo_script.specs.inner.Scripts.{at, events_of};
+ghost use Rattle.geo_script.specs.inner.Scripts.{at, behind, events_of};
 
 use crate::event::Event;
 use crate::fault::{ScriptKind, ScriptRefusal, bad};
@@ -183,7 +183,31 @@ fn event_at(
     }
 }
 
+/// Reads the event of each line that says something, behind those that were read. Of the events behind an error
+/// nothing is known.
+fn read_rest(
+    alloc: Global,
+    form: Form,
+    regions: u8,
+    rest: Rest<'_>,
+    past: &mut Past,
+    events: &mut Vec<EventAt>,
+) -> Result<(), ScriptRefusal>
+    requires regions { 1 ≤ regions }
+    requires room { rest.number + length rest.bytes.now < 2 ^ 32 }
+    ensures { Answers (λ _. events.new.items) result (behind events.old.items (events_of form regions past.old (spoken rest.entry))) }
+{
+    let mut ahead = rest;
+    while let Ok(next) = next_spoken(ahead) {
+        let event = event_at(alloc, form, regions, past, next.number, next.line)?;
+        events.push(event)?;
+        ahead = next.rest;
+    }
+    Ok(())
+}
+
 /// The events of all lines that say something.
+#[tactic(auto, using(crate::proofs::EventLists::behind_none))]
 pub(crate) fn read_events(
     alloc: Global,
     form: Form,
@@ -196,11 +220,6 @@ pub(crate) fn read_events(
 {
     let mut past = Past::new(alloc);
     let mut events = Vec::new(alloc);
-    let mut behind = rest;
-    while let Ok(next) = next_spoken(behind) {
-        let event = event_at(alloc, form, regions, &mut past, next.number, next.line)?;
-        events.push(event)?;
-        behind = next.rest;
-    }
+    read_rest(alloc, form, regions, rest, &mut past, &mut events)?;
     Ok(EventAtList::new(events))
 }

@@ -1,5 +1,0 @@
-use Rattle.geo_script.proofs.SchemaTables.{few_columns_at}
-use Rattle.geo_script.proofs.reading.index.index_at.Goals as goal
-
-pub index_on-requires : goal.index_on-requires
-index_on-requires c = few_columns_at c.args.tables.now c.in-Some-number_of.at c.index-tables-at.result c.requires.schema c.in-Some-number_of.ensures.within c.index-tables-at.is

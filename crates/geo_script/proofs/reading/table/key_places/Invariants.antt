@@ -1,6 +1,0 @@
-use Rattle.std.proofs.Common.{◌≡◌, ◌++◌, drop}
-use Rattle.geo_script.specs.Tables.{key_places}
-use Rattle.geo_script.proofs.reading.table.key_places.Given as goal
-
-abbrev pub invariant-loop-place : goal.invariant-loop-place
-invariant-loop-place l = key_places 0 l.columns ≡ l.places.items ++ key_places l.place (drop l.place l.columns)

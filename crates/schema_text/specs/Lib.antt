@@ -1,0 +1,5 @@
+pub mod Marks
+pub mod Tables
+pub mod Spelling
+pub mod inner
+pub mod laws
