@@ -1,14 +1,15 @@
 -- The numbers drawn from one counter.
-use Rattle.std.proofs.Common.{◌≡◌, ℕ, ◌+◌, ◌<◌, ◌≤◌, min, List, [], ◌∷◌, ◌++◌, length, set, ap, ◌∙◌, arith, length-append}
+use Rattle.std.proofs.Common.{◌≡◌, ℕ, ◌+◌, ◌<◌, ◌≤◌, min, List, [], ◌∷◌, ◌++◌, length, set, refl, sym, ap, ◌∙◌, arith, length-append}
 use Rattle.std.specs.Prelude.{sum_by, All, Some, None}
 use Rattle.std.proofs.lemmas.Bool.Decides.{nat_tests}
+use Rattle.std.proofs.lemmas.List.Elements.{All-weaker}
 use mathlib.Core.Option.{some}
 use lib.ListN.{get_elem?}
 use Rattle.claim_rule.specs.declared.view.Draws.{Draws}
 use Rattle.claim_rule.specs.declared.view.ClaimView.{ClaimView}
-use Rattle.claim_rule.specs.Views.{times, draws_after, draws_joined}
+use Rattle.claim_rule.specs.Views.{times, no_draws, draws_after, draws_joined}
 use Rattle.claim_rule.specs.Rule.{once_below, AreDrawn}
-use Rattle.claim_rule.proofs.Sums.{sum_set, sum_set_same, sum_at, sum_joined, sum_split, sum_both, sum_each}
+use Rattle.claim_rule.proofs.Sums.{sum_set, sum_set_same, sum_at, sum_alone, sum_joined, sum_split, sum_both, sum_each}
 use Rattle.claim_rule.specs.laws.Times.{times-append}
 
 once_more : (x c : ℕ) → once_below x (c + 1) ≡ once_below x c + times x (c ∷ [])
@@ -119,6 +120,33 @@ module _ (counter n : ℕ) (draws : ClaimView → Draws) (views : List ClaimView
       let all = drawn.once x in
       let few = once_few x (min counter n) in
       omega arith
+
+  -- a view that has all shares has all that was drawn
+  module _ (id : ℕ) (v : ClaimView) (at : get_elem? views id ≡ some v) (bare : All (λ u. u.shares ≡ 0 → draws u ≡ no_draws) views) (whole : sum_by (λ u. u.shares) views ≡ v.shares) where
+    mine_alone : (f : Draws → ℕ) → f no_draws ≡ 0 → sum_by (λ u. f (draws u)) views ≡ f (draws v)
+    mine_alone f none = sum_alone (λ u. u.shares) (λ u. f (draws u)) views id v at
+        (All-weaker (λ u. u.shares ≡ 0 → draws u ≡ no_draws) (λ u. u.shares ≡ 0 → f (draws u) ≡ 0) (λ u is shareless. ap f (is shareless) ∙ none) views bare) whole
+
+    -- where a draw of it came too late, these are all numbers below n
+    over : 0 < length (draws v).late → n ≤ counter
+    over late =
+        let numbers = mine_alone (λ d. length d.numbers) refl in
+        let both = mine_alone (λ d. length d.numbers + length d.late) refl in
+        let all = drawn.drawn in
+        let count = drawn.counted in
+        omega arith
+
+    pub drawn_all : 0 < length (draws v).late → length (draws v).numbers ≡ n
+    drawn_all late =
+        let numbers = mine_alone (λ d. length d.numbers) refl in
+        let all = drawn.drawn in
+        let most = over late in
+        omega arith
+
+    pub drawn_each : 0 < length (draws v).late → (x : ℕ) → x < n → times x (draws v).numbers ≡ 1
+    drawn_each late x below =
+        let most = over late in
+        sym (mine_alone (λ d. times x d.numbers) refl) ∙ drawn.once x ∙ ap (once_below x) (let m : min counter n ≡ n = omega arith in m) ∙ once_there x n below
 
   -- the counter is at most 8 above n, so that it doesn't wrap
   pub drawn_small : All (λ u. length (draws u).late ≤ u.shares) views → sum_by (λ u. u.shares) views ≤ 8 → counter ≤ n + 8

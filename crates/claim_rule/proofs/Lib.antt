@@ -6,5 +6,6 @@ mod Moves
 mod Sharing
 mod Words
 mod Stepping
+mod Joins
 mod Rows
 mod Trials

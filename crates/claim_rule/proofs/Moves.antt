@@ -8,6 +8,7 @@ use native.Mathlib.Decide.{ℕ_discrete}
 use lib.ListN.{get_elem?}
 use Rattle.claim_rule.specs.declared.view.Draws.{Draws}
 use Rattle.claim_rule.specs.declared.view.ClaimView.{ClaimView}
+use Rattle.claim_rule.specs.declared.size.TableSize.{TableSize}
 use Rattle.claim_rule.specs.Plan.{Pieces, piece_of, word_on, best}
 use Rattle.claim_rule.specs.Views.{times, claim_drawn, row_claimed, piece_finished, done_seen, judge_drawn}
 use Rattle.claim_rule.specs.Rule.{IsPlanned, AreLate, Fits, AreDrawn, IsRuled}
@@ -41,13 +42,13 @@ late_more n shares late x are unspent above = record {
 looked_more : (done : ℕ) (looks : List ℕ) → All (λ seen. seen ≤ done) looks → All (λ seen. seen ≤ done + 1) looks
 looked_more done looks all = All-weaker (λ seen. seen ≤ done) (λ seen. seen ≤ done + 1) (λ seen (low : seen ≤ done). omega arith) looks all
 
-module _ (rows : ℕ) (plan : Pieces) (claimed done judged : ℕ) (headers : List ℕ) (views : List ClaimView) (r : IsRuled rows plan claimed done judged headers views) (id : ℕ) (v : ClaimView) (at : get_elem? views id ≡ some v) where
+module _ (size : TableSize) (plan : Pieces) (claimed done judged : ℕ) (headers : List ℕ) (views : List ClaimView) (r : IsRuled size plan claimed done judged headers views) (id : ℕ) (v : ClaimView) (at : get_elem? views id ≡ some v) where
   mine : Fits plan done v
   mine = each_at (Fits plan done) views id v r.fits at
 
   -- ---- draw a claim piece
 
-  pub draw_claim_some : 0 < v.shares → claimed < length plan → IsRuled rows plan (claimed + 1) done judged headers (set views id (claim_drawn (Some claimed) claimed v))
+  pub draw_claim_some : 0 < v.shares → claimed < length plan → IsRuled size plan (claimed + 1) done judged headers (set views id (claim_drawn (Some claimed) claimed v))
   draw_claim_some some_share below =
       let w = claim_drawn (Some claimed) claimed v in
       record {
@@ -63,6 +64,7 @@ module _ (rows : ℕ) (plan : Pieces) (claimed done judged : ℕ) (headers : Lis
             omega arith;
         greatest = λ row within. r.greatest row within ∙ sym (top_set_same (λ u. best row u.claims) views id v w at refl);
         shares = let same = sum_set_same (λ u. u.shares) views id v w at refl in let all = r.shares in omega arith;
+        workers = r.workers;
         few = r.few;
         long = r.long;
       }
@@ -91,7 +93,7 @@ module _ (rows : ℕ) (plan : Pieces) (claimed done judged : ℕ) (headers : Lis
         late_judging = mine.late_judging;
       }
 
-  pub draw_claim_none : 0 < v.shares → length plan ≤ claimed → length v.claiming.late < v.shares → IsRuled rows plan (claimed + 1) done judged headers (set views id (claim_drawn None claimed v))
+  pub draw_claim_none : 0 < v.shares → length plan ≤ claimed → length v.claiming.late < v.shares → IsRuled size plan (claimed + 1) done judged headers (set views id (claim_drawn None claimed v))
   draw_claim_none some_share above unspent =
       let w = claim_drawn None claimed v in
       record {
@@ -118,6 +120,7 @@ module _ (rows : ℕ) (plan : Pieces) (claimed done judged : ℕ) (headers : Lis
             omega arith;
         greatest = λ row within. r.greatest row within ∙ sym (top_set_same (λ u. best row u.claims) views id v w at refl);
         shares = let same = sum_set_same (λ u. u.shares) views id v w at refl in let all = r.shares in omega arith;
+        workers = r.workers;
         few = r.few;
         long = r.long;
       }
@@ -126,7 +129,7 @@ module _ (rows : ℕ) (plan : Pieces) (claimed done judged : ℕ) (headers : Lis
 
   -- the rule where the view changes in its flag and in what it has drawn for judging
   judged_so : (w : ClaimView) (judged' : ℕ) → w.closed ≡ v.closed → w.plan ≡ v.plan → w.shares ≡ v.shares → w.claiming ≡ v.claiming → w.pending ≡ v.pending → w.claims ≡ v.claims
-      → Fits plan done w → AreDrawn judged' (length plan) (λ u. u.judging) (set views id w) → IsRuled rows plan claimed done judged' headers (set views id w)
+      → Fits plan done w → AreDrawn judged' (length plan) (λ u. u.judging) (set views id w) → IsRuled size plan claimed done judged' headers (set views id w)
   judged_so w judged' a b c d e f fits drawn = record {
     fits = All-set (Fits plan done) views id w fits r.fits;
     claiming = drawn_same claimed (length plan) (λ u. u.claiming) views r.claiming id v w at d;
@@ -138,11 +141,12 @@ module _ (rows : ℕ) (plan : Pieces) (claimed done judged : ℕ) (headers : Lis
         omega arith;
     greatest = λ row within. r.greatest row within ∙ sym (top_set_same (λ u. best row u.claims) views id v w at (ap (best row) f));
     shares = let same = sum_set_same (λ u. u.shares) views id v w at c in let all = r.shares in omega arith;
+    workers = r.workers;
     few = r.few;
     long = r.long;
   }
 
-  pub draw_judge_some : 0 < v.shares → v.stable ≡ true → judged < length plan → IsRuled rows plan claimed done (judged + 1) headers (set views id (judge_drawn (Some judged) judged v))
+  pub draw_judge_some : 0 < v.shares → v.stable ≡ true → judged < length plan → IsRuled size plan claimed done (judged + 1) headers (set views id (judge_drawn (Some judged) judged v))
   draw_judge_some some_share flag below =
       let w = judge_drawn (Some judged) judged v in
       judged_so w (judged + 1) refl refl refl refl refl refl
@@ -162,7 +166,7 @@ module _ (rows : ℕ) (plan : Pieces) (claimed done judged : ℕ) (headers : Lis
       }
       (drawn_some judged (length plan) (λ u. u.judging) views r.judging id v w at below refl)
 
-  pub draw_judge_none : 0 < v.shares → v.stable ≡ true → length plan ≤ judged → length v.judging.late < v.shares → IsRuled rows plan claimed done (judged + 1) headers (set views id (judge_drawn None judged v))
+  pub draw_judge_none : 0 < v.shares → v.stable ≡ true → length plan ≤ judged → length v.judging.late < v.shares → IsRuled size plan claimed done (judged + 1) headers (set views id (judge_drawn None judged v))
   draw_judge_none some_share flag above unspent =
       let w = judge_drawn None judged v in
       judged_so w (judged + 1) refl refl refl refl refl refl
@@ -182,7 +186,7 @@ module _ (rows : ℕ) (plan : Pieces) (claimed done judged : ℕ) (headers : Lis
       }
       (drawn_none judged (length plan) (λ u. u.judging) views r.judging id v w at above refl)
 
-  pub see_done : 0 < v.shares → IsRuled rows plan claimed done judged headers (set views id (done_seen done v))
+  pub see_done : 0 < v.shares → IsRuled size plan claimed done judged headers (set views id (done_seen done v))
   see_done some_share =
       let w = done_seen done v in
       let known : v.plan ≡ plan = mine.same some_share in
@@ -209,8 +213,8 @@ module _ (rows : ℕ) (plan : Pieces) (claimed done judged : ℕ) (headers : Lis
 
   -- ---- claim a row
 
-  pub claim_row : (row word : ℕ) → row < rows → (x : ℕ) → 0 < times x v.pending → Contains (piece_of plan x) (row, word)
-      → IsRuled rows plan claimed done judged (set headers row (max (slice_index headers row) word)) (set views id (row_claimed row word v))
+  pub claim_row : (row word : ℕ) → row < size.rows → (x : ℕ) → 0 < times x v.pending → Contains (piece_of plan x) (row, word)
+      → IsRuled size plan claimed done judged (set headers row (max (slice_index headers row) word)) (set views id (row_claimed row word v))
   claim_row row word within x pending has =
       let w = row_claimed row word v in
       let much = times-le-length x v.pending in
@@ -250,6 +254,7 @@ module _ (rows : ℕ) (plan : Pieces) (claimed done judged : ℕ) (headers : Lis
             let header = raised other (omega arith) in
             omega arith;
         shares = let same = sum_set_same (λ u. u.shares) views id v w at refl in let all = r.shares in omega arith;
+        workers = r.workers;
         few = r.few;
         long = length-set headers row (max (slice_index headers row) word) ∙ r.long;
       }
@@ -266,13 +271,13 @@ module _ (rows : ℕ) (plan : Pieces) (claimed done judged : ℕ) (headers : Lis
 
   -- ---- finish a piece
 
-  pub finish : (x : ℕ) → 0 < times x v.pending → All (Contains v.claims) (piece_of plan x) → IsRuled rows plan claimed (done + 1) judged headers (set views id (piece_finished x v))
+  pub finish : (x : ℕ) → 0 < times x v.pending → All (Contains v.claims) (piece_of plan x) → IsRuled size plan claimed (done + 1) judged headers (set views id (piece_finished x v))
   finish x pending made =
       let w = piece_finished x v in
       let much = times-le-length x v.pending in
       let some_pending : 0 < length v.pending = omega arith in
       let some_share = some_shares v plan done mine some_pending in
-      let open_still = undone rows plan claimed done judged headers views r id v at some_pending in
+      let open_still = undone size plan claimed done judged headers views r id v at some_pending in
       let others : (u : ClaimView) → Fits plan done u → Fits plan (done + 1) u =
       (λ (u : ClaimView) (f : Fits plan done u). record {
         opened = f.opened;
@@ -316,6 +321,7 @@ module _ (rows : ℕ) (plan : Pieces) (claimed done judged : ℕ) (headers : Lis
             omega arith;
         greatest = λ row within. r.greatest row within ∙ sym (top_set_same (λ u. best row u.claims) views id v w at refl);
         shares = let same = sum_set_same (λ u. u.shares) views id v w at refl in let all = r.shares in omega arith;
+        workers = r.workers;
         few = r.few;
         long = r.long;
       }

@@ -8,8 +8,9 @@ use lib.ListN.{get_elem?, get_or-replicate, length-replicate}
 use Rattle.atomic_table.proofs.Lists.{at_set, set_here}
 use Rattle.claim_rule.specs.declared.view.Draws.{Draws}
 use Rattle.claim_rule.specs.declared.view.ClaimView.{ClaimView}
+use Rattle.claim_rule.specs.declared.size.TableSize.{TableSize}
 use Rattle.claim_rule.specs.Plan.{Pieces, piece_of, word_on, best}
-use Rattle.claim_rule.specs.Views.{times, no_draws, unused_view, spent_view, shares_kept, shares_given, views_joined}
+use Rattle.claim_rule.specs.Views.{times, no_draws, new_view, spent_view, shares_kept, shares_given, views_joined}
 use Rattle.claim_rule.specs.Rule.{once_below, IsFinished, IsPlanned, AreLate, Fits, AreDrawn, IsRuled}
 use Rattle.claim_rule.proofs.Sums.{each_at, sum_joined, sum_split}
 use Rattle.claim_rule.specs.laws.Times.{times-append}
@@ -31,7 +32,7 @@ both_late n shares more late later are too = record {
 }
 
 -- a view that has done nothing
-fresh_fits : (plan : Pieces) (done shares : ℕ) (flag : Bool) → 0 < shares → (flag ≡ true → done ≡ length plan) → Fits plan done (unused_view plan shares flag)
+fresh_fits : (plan : Pieces) (done shares : ℕ) (flag : Bool) → 0 < shares → (flag ≡ true → done ≡ length plan) → Fits plan done (new_view plan shares flag)
 fresh_fits plan done shares flag some_share stable = record {
   opened = refl;
   same = λ _. refl;
@@ -39,7 +40,7 @@ fresh_fits plan done shares flag some_share stable = record {
   joined = All-nil (λ p. p ≡ plan);
   drawn = λ x. omega arith;
   made = λ x f. let has : 0 < 0 = f.drawn in absurd (omega arith);
-  planned = All-nil (IsPlanned plan (unused_view plan shares flag));
+  planned = All-nil (IsPlanned plan (new_view plan shares flag));
   looked = All-nil (λ seen. seen ≤ done);
   stable = stable;
   judging = λ _. refl;
@@ -63,12 +64,12 @@ spent_fits plan done = record {
   late_judging = none_late (length plan) 0;
 }
 
-module _ (rows : ℕ) (plan : Pieces) (claimed done judged : ℕ) (headers : List ℕ) (views : List ClaimView) (r : IsRuled rows plan claimed done judged headers views) (id : ℕ) (v : ClaimView) (at : get_elem? views id ≡ some v) where
+module _ (size : TableSize) (plan : Pieces) (claimed done judged : ℕ) (headers : List ℕ) (views : List ClaimView) (r : IsRuled size plan claimed done judged headers views) (id : ℕ) (v : ClaimView) (at : get_elem? views id ≡ some v) where
   mine : Fits plan done v
   mine = each_at (Fits plan done) views id v r.fits at
 
   pub split : (part : ℕ) → 0 < part → part < v.shares → length v.claiming.late + part ≤ v.shares → length v.judging.late + part ≤ v.shares
-      → IsRuled rows plan claimed done judged headers (set views id (shares_kept part v) ++ shares_given part v ∷ [])
+      → IsRuled size plan claimed done judged headers (set views id (shares_kept part v) ++ shares_given part v ∷ [])
   split part some_part less claims_late judges_late =
       let left = shares_kept part v in
       let right = shares_given part v in
@@ -89,7 +90,7 @@ module _ (rows : ℕ) (plan : Pieces) (claimed done judged : ℕ) (headers : Lis
               late_claiming = fewer_late (length plan) v.shares (v.shares - part) v.claiming.late mine.late_claiming (omega arith);
               late_judging = fewer_late (length plan) v.shares (v.shares - part) v.judging.late mine.late_judging (omega arith);
             } r.fits)
-            (subst (λ (p : Pieces). Fits plan done (unused_view p part v.stable)) (sym (mine.same some_share)) (fresh_fits plan done part v.stable some_part mine.stable));
+            (subst (λ (p : Pieces). Fits plan done (new_view p part v.stable)) (sym (mine.same some_share)) (fresh_fits plan done part v.stable some_part mine.stable));
         claiming = drawn_split claimed (length plan) (λ u. u.claiming) views r.claiming id v left right at refl refl refl;
         judging = drawn_split judged (length plan) (λ u. u.judging) views r.judging id v left right at refl refl refl;
         finished =
@@ -99,12 +100,13 @@ module _ (rows : ℕ) (plan : Pieces) (claimed done judged : ℕ) (headers : Lis
             omega arith;
         greatest = λ row within. r.greatest row within ∙ sym (top_split (λ u. best row u.claims) views id v left right at refl refl);
         shares = let same = sum_split (λ u. u.shares) views id v left right at (omega arith) in let all = r.shares in omega arith;
+        workers = r.workers;
         few = r.few;
         long = r.long;
       }
 
   pub join : (other : ℕ) (w : ClaimView) → other ≢ id → get_elem? (set views id (views_joined v w)) other ≡ some w → 0 < v.shares → 0 < w.shares
-      → IsRuled rows plan claimed done judged headers (set (set views id (views_joined v w)) other spent_view)
+      → IsRuled size plan claimed done judged headers (set (set views id (views_joined v w)) other spent_view)
   join other w apart there some_share other_share =
       let both = views_joined v w in
       let was = was_there in
@@ -120,6 +122,7 @@ module _ (rows : ℕ) (plan : Pieces) (claimed done judged : ℕ) (headers : Lis
         greatest = λ row within. r.greatest row within ∙ sym (top_joined (λ u. best row u.claims) views id other v w both spent_view (λ e. apart (sym e)) at (set_here views id both (there_is views id v at)) there was
             (top-append (word_on row) v.claims w.claims) refl);
         shares = let same = sum_joined (λ u. u.shares) views id other v w both spent_view at there refl refl in let all = r.shares in omega arith;
+        workers = r.workers;
         few = r.few;
         long = r.long;
       }
@@ -192,23 +195,24 @@ module _ (rows : ℕ) (plan : Pieces) (claimed done judged : ℕ) (headers : Lis
       }
 
 -- the table with its first view
-pub opens : (rows : ℕ) (plan : Pieces) (shares : ℕ) → length plan < 2 ^ 32 → 0 < shares → shares ≤ 8 → IsRuled rows plan 0 0 0 (replicate rows 0) (unused_view plan shares false ∷ [])
-opens rows plan shares few some_share most =
-    let drawn : (draws : ClaimView → Draws) → draws (unused_view plan shares false) ≡ no_draws → AreDrawn 0 (length plan) draws (unused_view plan shares false ∷ []) =
-    (λ (draws : ClaimView → Draws) (none : draws (unused_view plan shares false) ≡ no_draws). record {
+pub opens : (size : TableSize) (plan : Pieces) (shares : ℕ) → length plan < 2 ^ 32 → 0 < shares → shares ≡ size.workers → size.workers ≤ 8 → IsRuled size plan 0 0 0 (replicate size.rows 0) (new_view plan shares false ∷ [])
+opens size plan shares few some_share are most =
+    let drawn : (draws : ClaimView → Draws) → draws (new_view plan shares false) ≡ no_draws → AreDrawn 0 (length plan) draws (new_view plan shares false ∷ []) =
+    (λ (draws : ClaimView → Draws) (none : draws (new_view plan shares false) ≡ no_draws). record {
       once = λ x. ap (λ (d : Draws). 0 + times x d.numbers) none ∙ none_below x;
       drawn = ap (λ (d : Draws). 0 + length d.numbers) none ∙ (omega arith);
       counted = ap (λ (d : Draws). 0 + (length d.numbers + length d.late)) none;
     }) in
     record {
-      fits = All-cons (Fits plan 0) (unused_view plan shares false) [] (fresh_fits plan 0 shares false some_share (λ on. absurd (true≢false (sym on)))) (All-nil (Fits plan 0));
+      fits = All-cons (Fits plan 0) (new_view plan shares false) [] (fresh_fits plan 0 shares false some_share (λ on. absurd (true≢false (sym on)))) (All-nil (Fits plan 0));
       claiming = drawn (λ v. v.claiming) refl;
       judging = drawn (λ v. v.judging) refl;
       finished = refl;
-      greatest = λ row within. get_or-replicate rows row 0 0 within;
+      greatest = λ row within. get_or-replicate size.rows row 0 0 within;
       shares = omega arith;
+      workers = most;
       few = few;
-      long = length-replicate rows 0;
+      long = length-replicate size.rows 0;
     }
   where
     nothing : (x : ℕ) → once_below x 0 ≡ 0

@@ -48,6 +48,28 @@ module _ {A : Type 0} where
           (suc rest.0, rest.1, rest.2, rest.3)
       by (suc n) is below = (0, x, refl, omega arith)
 
+  -- where one view has all of g, it has all of each f that no view has without g
+  sum_nothing : (g f : A → ℕ) (xs : List A) → All (λ v. g v ≡ 0 → f v ≡ 0) xs → sum_by g xs ≡ 0 → sum_by f xs ≡ 0
+  sum_nothing g f [] both none = refl
+  sum_nothing g f (x ∷ xs) both none =
+      let here : f x ≡ 0 = All-head (λ v. g v ≡ 0 → f v ≡ 0) x xs both (omega (arith, sum_by-cons g x xs)) in
+      let rest : sum_by f xs ≡ 0 = sum_nothing g f xs (All-tail (λ v. g v ≡ 0 → f v ≡ 0) x xs both) (omega (arith, sum_by-cons g x xs)) in
+      omega (arith, sum_by-cons f x xs)
+
+  pub sum_alone : (g f : A → ℕ) (xs : List A) (i : ℕ) (v : A) → get_elem? xs i ≡ some v → All (λ u. g u ≡ 0 → f u ≡ 0) xs → sum_by g xs ≡ g v → sum_by f xs ≡ f v
+  sum_alone g f [] i v at both whole = absurd (some-ne-none v (sym at))
+  sum_alone g f (x ∷ xs) zero v at both whole =
+      let same : g x ≡ g v = ap g (some-injective x v at) in
+      let same_too : f x ≡ f v = ap f (some-injective x v at) in
+      let rest : sum_by f xs ≡ 0 = sum_nothing g f xs (All-tail (λ u. g u ≡ 0 → f u ≡ 0) x xs both) (omega (arith, sum_by-cons g x xs)) in
+      omega (arith, sum_by-cons f x xs)
+  sum_alone g f (x ∷ xs) (suc i) v at both whole =
+      let low : g v ≤ sum_by g xs = sum_at g xs i v at in
+      let none : g x ≡ 0 = omega (arith, sum_by-cons g x xs) in
+      let here : f x ≡ 0 = All-head (λ u. g u ≡ 0 → f u ≡ 0) x xs both none in
+      let rest : sum_by f xs ≡ f v = sum_alone g f xs i v at (All-tail (λ u. g u ≡ 0 → f u ≡ 0) x xs both) (omega (arith, sum_by-cons g x xs)) in
+      omega (arith, sum_by-cons f x xs)
+
   -- one view takes in what another had
   pub sum_joined : (f : A → ℕ) (xs : List A) (i j : ℕ) (v w both spent : A) → get_elem? xs i ≡ some v → get_elem? (set xs i both) j ≡ some w → f both ≡ f v + f w → f spent ≡ 0 → sum_by f (set (set xs i both) j spent) ≡ sum_by f xs
   sum_joined f xs i j v w both spent at there adds none =

@@ -5,12 +5,12 @@ use Rattle.std.proofs.lemmas.List.Elements.{All-weaker, All-contains_itself, Con
 use Rattle.claim_rule.specs.declared.view.ClaimView.{ClaimView}
 use Rattle.claim_rule.specs.Plan.{Pieces, piece_of}
 use Rattle.claim_rule.specs.Views.{times}
-use Rattle.claim_rule.specs.Seats.{IsOwed, IsClaimed}
+use Rattle.claim_rule.specs.Seats.{CanClaim, IsClaimed}
 use Rattle.claim_rule.specs.inner.Trial.{three_pieces, pairs_claimed}
 
--- the seat owes the claim of a pair of a piece at which it works
-pub owes : (v : ClaimView) (piece row word : ℕ) → v.plan ≡ three_pieces → 0 < times piece v.pending → Contains (piece_of three_pieces piece) (row, word) → IsOwed v row word
-owes v piece row word planned pending has = record { piece = piece; pending = pending; planned = subst (λ (p : Pieces). Contains (piece_of p piece) (row, word)) (sym planned) has }
+-- the seat can claim a pair of a piece at which it works
+pub may_claim : (v : ClaimView) (piece row word : ℕ) → v.plan ≡ three_pieces → 0 < times piece v.pending → Contains (piece_of three_pieces piece) (row, word) → CanClaim v row word
+may_claim v piece row word planned pending has = record { piece = piece; pending = pending; planned = subst (λ (p : Pieces). Contains (piece_of p piece) (row, word)) (sym planned) has }
 
 -- once all its claims are made, it may be finished
 pub claimed : (v w : ClaimView) (piece : ℕ) → v.plan ≡ three_pieces → 0 < times piece v.pending → w ≡ pairs_claimed piece v → IsClaimed w piece

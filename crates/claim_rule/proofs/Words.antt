@@ -6,6 +6,7 @@ use mathlib.Core.Option as maybe
 use lib.ListN.{get_elem?}
 use Rattle.atomic_table.specs.Table.{Act, keeps, Valid, homes_after, carried_after, Allows, Splits, Joins}
 use Rattle.claim_rule.specs.declared.view.ClaimView.{ClaimView}
+use Rattle.claim_rule.specs.declared.size.TableSize.{TableSize}
 use Rattle.claim_rule.specs.Plan.{Pieces}
 use Rattle.claim_rule.specs.Views.{closed_view}
 use Rattle.claim_rule.specs.Rule.{IsRuled, IsClosed, IsOpen, Holds}
@@ -19,30 +20,30 @@ not_closed views id v only at opened = here id (sym (ap (λ (l : List ClaimView)
     here zero e = true≢false (ap (λ (u : ClaimView). u.closed) (some-injective closed_view v e) ∙ opened)
     here (suc k) e = some-ne-none v (sym e)
 
-module _ (rows id : ℕ) (me : Seated) where
+module _ (size : TableSize) (id : ℕ) (me : Seated) where
   -- what a step owes, by the words that it finds
   abbrev Goes : List (maybe.Option (Unit {0})) → List ClaimView → ℕ → (ℕ → ℕ) → (ℕ → Seated → Type 0) → List ℕ → Type 0
   Goes homes views word f then words = (w : ClaimView) × (a : Act (Unit {0})) × Valid homes me.1 a
-      × Holds rows record { words = slice_set words word (f (slice_index words word)); homes = homes_after homes me.1 a; views = slice_set views id w }
+      × Holds size record { words = slice_set words word (f (slice_index words word)); homes = homes_after homes me.1 a; views = slice_set views id w }
       × then (slice_index words word) (w, carried_after me.1 a)
 
   -- the same where the words are known
   abbrev Steps : List ClaimView → Pieces → ℕ → ℕ → ℕ → List ℕ → ℕ → (ℕ → Seated → Type 0) → Type 0
-  Steps views plan claimed done judged headers found then = (w : ClaimView) × IsRuled rows plan claimed done judged headers (set views id w) × then found (w, me.1)
+  Steps views plan claimed done judged headers found then = (w : ClaimView) × IsRuled size plan claimed done judged headers (set views id w) × then found (w, me.1)
 
   on_open : (slots word : ℕ) (f : ℕ → ℕ) (then : ℕ → Seated → Type 0) → me.0.closed ≡ false
-      → ((homes : List (maybe.Option (Unit {0}))) (views : List ClaimView) (plan : Pieces) (claimed done judged : ℕ) (headers : List ℕ) → IsRuled rows plan claimed done judged headers views → get_elem? views id ≡ some me.0
+      → ((homes : List (maybe.Option (Unit {0}))) (views : List ClaimView) (plan : Pieces) (claimed done judged : ℕ) (headers : List ℕ) → IsRuled size plan claimed done judged headers views → get_elem? views id ≡ some me.0
       → Goes homes views word f then (claimed ∷ done ∷ judged ∷ headers))
-      → Allows (Holds rows) slots id me word f then
+      → Allows (Holds size) slots id me word f then
   on_open slots word f then opened go s holds deep at fits = ⊎_elim
-      (λ (c : IsClosed rows s). absurd (not_closed s.views id me.0 c.views at opened))
-      (λ (o : IsOpen rows s). subst (Goes s.homes s.views word f then) (sym o.words) (go s.homes s.views o.plan o.claimed o.done o.judged o.headers o.ruled at))
+      (λ (c : IsClosed size s). absurd (not_closed s.views id me.0 c.views at opened))
+      (λ (o : IsOpen size s). subst (Goes s.homes s.views word f then) (sym o.words) (go s.homes s.views o.plan o.claimed o.done o.judged o.headers o.ruled at))
       holds
 
   pub on_claimed : (slots word : ℕ) (f : ℕ → ℕ) (then : ℕ → Seated → Type 0) → word ≡ 0 → me.0.closed ≡ false
-      → ((views : List ClaimView) (plan : Pieces) (claimed done judged : ℕ) (headers : List ℕ) → IsRuled rows plan claimed done judged headers views → get_elem? views id ≡ some me.0
+      → ((views : List ClaimView) (plan : Pieces) (claimed done judged : ℕ) (headers : List ℕ) → IsRuled size plan claimed done judged headers views → get_elem? views id ≡ some me.0
       → Steps views plan (f claimed) done judged headers claimed then)
-      → Allows (Holds rows) slots id me word f then
+      → Allows (Holds size) slots id me word f then
   on_claimed slots word f then first opened go = on_open slots word f then opened
       (λ homes views plan claimed done judged headers r at.
       let step = go views plan claimed done judged headers r at in
@@ -50,9 +51,9 @@ module _ (rows id : ℕ) (me : Seated) where
       (step.0, keeps, tt, inr record { plan = plan; claimed = f claimed; done = done; judged = judged; headers = headers; words = refl; ruled = step.1 }, step.2))
 
   pub on_done : (slots word : ℕ) (f : ℕ → ℕ) (then : ℕ → Seated → Type 0) → word ≡ 1 → me.0.closed ≡ false
-      → ((views : List ClaimView) (plan : Pieces) (claimed done judged : ℕ) (headers : List ℕ) → IsRuled rows plan claimed done judged headers views → get_elem? views id ≡ some me.0
+      → ((views : List ClaimView) (plan : Pieces) (claimed done judged : ℕ) (headers : List ℕ) → IsRuled size plan claimed done judged headers views → get_elem? views id ≡ some me.0
       → Steps views plan claimed (f done) judged headers done then)
-      → Allows (Holds rows) slots id me word f then
+      → Allows (Holds size) slots id me word f then
   on_done slots word f then first opened go = on_open slots word f then opened
       (λ homes views plan claimed done judged headers r at.
       let step = go views plan claimed done judged headers r at in
@@ -60,9 +61,9 @@ module _ (rows id : ℕ) (me : Seated) where
       (step.0, keeps, tt, inr record { plan = plan; claimed = claimed; done = f done; judged = judged; headers = headers; words = refl; ruled = step.1 }, step.2))
 
   pub on_judged : (slots word : ℕ) (f : ℕ → ℕ) (then : ℕ → Seated → Type 0) → word ≡ 2 → me.0.closed ≡ false
-      → ((views : List ClaimView) (plan : Pieces) (claimed done judged : ℕ) (headers : List ℕ) → IsRuled rows plan claimed done judged headers views → get_elem? views id ≡ some me.0
+      → ((views : List ClaimView) (plan : Pieces) (claimed done judged : ℕ) (headers : List ℕ) → IsRuled size plan claimed done judged headers views → get_elem? views id ≡ some me.0
       → Steps views plan claimed done (f judged) headers judged then)
-      → Allows (Holds rows) slots id me word f then
+      → Allows (Holds size) slots id me word f then
   on_judged slots word f then first opened go = on_open slots word f then opened
       (λ homes views plan claimed done judged headers r at.
       let step = go views plan claimed done judged headers r at in
@@ -70,9 +71,9 @@ module _ (rows id : ℕ) (me : Seated) where
       (step.0, keeps, tt, inr record { plan = plan; claimed = claimed; done = done; judged = f judged; headers = headers; words = refl; ruled = step.1 }, step.2))
 
   pub on_header : (slots word row : ℕ) (f : ℕ → ℕ) (then : ℕ → Seated → Type 0) → word ≡ row + 3 → me.0.closed ≡ false
-      → ((views : List ClaimView) (plan : Pieces) (claimed done judged : ℕ) (headers : List ℕ) → IsRuled rows plan claimed done judged headers views → get_elem? views id ≡ some me.0
+      → ((views : List ClaimView) (plan : Pieces) (claimed done judged : ℕ) (headers : List ℕ) → IsRuled size plan claimed done judged headers views → get_elem? views id ≡ some me.0
       → Steps views plan claimed done judged (set headers row (f (slice_index headers row))) (slice_index headers row) then)
-      → Allows (Holds rows) slots id me word f then
+      → Allows (Holds size) slots id me word f then
   on_header slots word row f then behind opened go = on_open slots word f then opened
       (λ homes views plan claimed done judged headers r at.
       let step = go views plan claimed done judged headers r at in
@@ -82,20 +83,20 @@ module _ (rows id : ℕ) (me : Seated) where
 
 -- ---- split and join
 
-pub splits_by : (rows id : ℕ) (v left right : ClaimView) → v.closed ≡ false
-    → ((views : List ClaimView) (plan : Pieces) (claimed done judged : ℕ) (headers : List ℕ) → IsRuled rows plan claimed done judged headers views → get_elem? views id ≡ some v
-    → IsRuled rows plan claimed done judged headers (set views id left ++ right ∷ []))
-    → Splits (Holds rows) id v left right
-splits_by rows id v left right opened go s holds at = ⊎_elim
-    (λ (c : IsClosed rows s). absurd (not_closed s.views id v c.views at opened))
-    (λ (o : IsOpen rows s). inr record { plan = o.plan; claimed = o.claimed; done = o.done; judged = o.judged; headers = o.headers; words = o.words; ruled = go s.views o.plan o.claimed o.done o.judged o.headers o.ruled at })
+pub splits_by : (size : TableSize) (id : ℕ) (v left right : ClaimView) → v.closed ≡ false
+    → ((views : List ClaimView) (plan : Pieces) (claimed done judged : ℕ) (headers : List ℕ) → IsRuled size plan claimed done judged headers views → get_elem? views id ≡ some v
+    → IsRuled size plan claimed done judged headers (set views id left ++ right ∷ []))
+    → Splits (Holds size) id v left right
+splits_by size id v left right opened go s holds at = ⊎_elim
+    (λ (c : IsClosed size s). absurd (not_closed s.views id v c.views at opened))
+    (λ (o : IsOpen size s). inr record { plan = o.plan; claimed = o.claimed; done = o.done; judged = o.judged; headers = o.headers; words = o.words; ruled = go s.views o.plan o.claimed o.done o.judged o.headers o.ruled at })
     holds
 
-pub joins_by : (rows id : ℕ) (v : ClaimView) (other : ℕ) (w both spent : ClaimView) → v.closed ≡ false
-    → ((views : List ClaimView) (plan : Pieces) (claimed done judged : ℕ) (headers : List ℕ) → IsRuled rows plan claimed done judged headers views → get_elem? views id ≡ some v → other ≢ id → get_elem? (set views id both) other ≡ some w
-    → IsRuled rows plan claimed done judged headers (set (set views id both) other spent))
-    → Joins (Holds rows) id v other w both spent
-joins_by rows id v other w both spent opened go s holds at apart there = ⊎_elim
-    (λ (c : IsClosed rows s). absurd (not_closed s.views id v c.views at opened))
-    (λ (o : IsOpen rows s). inr record { plan = o.plan; claimed = o.claimed; done = o.done; judged = o.judged; headers = o.headers; words = o.words; ruled = go s.views o.plan o.claimed o.done o.judged o.headers o.ruled at apart there })
+pub joins_by : (size : TableSize) (id : ℕ) (v : ClaimView) (other : ℕ) (w both spent : ClaimView) → v.closed ≡ false
+    → ((views : List ClaimView) (plan : Pieces) (claimed done judged : ℕ) (headers : List ℕ) → IsRuled size plan claimed done judged headers views → get_elem? views id ≡ some v → other ≢ id → get_elem? (set views id both) other ≡ some w
+    → IsRuled size plan claimed done judged headers (set (set views id both) other spent))
+    → Joins (Holds size) id v other w both spent
+joins_by size id v other w both spent opened go s holds at apart there = ⊎_elim
+    (λ (c : IsClosed size s). absurd (not_closed s.views id v c.views at opened))
+    (λ (o : IsOpen size s). inr record { plan = o.plan; claimed = o.claimed; done = o.done; judged = o.judged; headers = o.headers; words = o.words; ruled = go s.views o.plan o.claimed o.done o.judged o.headers o.ruled at apart there })
     holds

@@ -6,6 +6,7 @@ use Rattle.atomic_table.specs.Table.{State}
 use Rattle.claim_rule.specs.declared.view.Draws.{Draws}
 use Rattle.claim_rule.specs.declared.view.ClaimView.{ClaimView}
 use Rattle.claim_rule.specs.declared.limits.TheConstants.{MAX_WORKERS}
+use Rattle.claim_rule.specs.declared.size.TableSize.{TableSize}
 use Rattle.claim_rule.specs.Plan.{Pieces, piece_of, top, best}
 use Rattle.claim_rule.specs.Views.{times, spent_view, closed_view}
 
@@ -57,7 +58,7 @@ pub record AreDrawn (counter n : ℕ) (draws : ClaimView → Draws) (views : Lis
   pub counted : sum_by (λ v. length (draws v).numbers + length (draws v).late) views ≡ counter
 
 -- the rule of a table with a plan
-pub record IsRuled (rows : ℕ) (plan : Pieces) (claimed done judged : ℕ) (headers : List ℕ) (views : List ClaimView) : Type 0 where
+pub record IsRuled (size : TableSize) (plan : Pieces) (claimed done judged : ℕ) (headers : List ℕ) (views : List ClaimView) : Type 0 where
   pub fits : All (Fits plan done) views
   -- the claim counter and the judge counter
   pub claiming : AreDrawn claimed (length plan) (λ v. v.claiming) views
@@ -65,27 +66,28 @@ pub record IsRuled (rows : ℕ) (plan : Pieces) (claimed done judged : ℕ) (hea
   -- the done word counts the numbers that are finished
   pub finished : done + sum_by (λ v. length v.pending) views ≡ sum_by (λ v. length v.claiming.numbers) views
   -- each header is the greatest claim on its row over all views, or 0
-  pub greatest : (row : ℕ) → row < rows → slice_index headers row ≡ top (λ v. best row v.claims) views
-  -- no counter wraps: the shares are few, and so are the pieces
-  pub shares : sum_by (λ v. v.shares) views ≤ MAX_WORKERS
+  pub greatest : (row : ℕ) → row < size.rows → slice_index headers row ≡ top (λ v. best row v.claims) views
+  -- the shares are as many as the workers; they are few, and so are the pieces, so that no counter wraps
+  pub shares : sum_by (λ v. v.shares) views ≡ size.workers
+  pub workers : size.workers ≤ MAX_WORKERS
   pub few : length plan < 2 ^ 32
-  pub long : length headers ≡ rows
+  pub long : length headers ≡ size.rows
 
 -- the table has no plan yet
-pub record IsClosed (rows : ℕ) (s : State (Unit {0}) ClaimView) : Type 0 where
-  pub words : s.words ≡ 0 ∷ 0 ∷ 0 ∷ replicate rows 0
+pub record IsClosed (size : TableSize) (s : State (Unit {0}) ClaimView) : Type 0 where
+  pub words : s.words ≡ 0 ∷ 0 ∷ 0 ∷ replicate size.rows 0
   pub views : s.views ≡ closed_view ∷ []
 
 -- the table has a plan
-pub record IsOpen (rows : ℕ) (s : State (Unit {0}) ClaimView) : Type 0 where
+pub record IsOpen (size : TableSize) (s : State (Unit {0}) ClaimView) : Type 0 where
   pub plan : Pieces
   pub claimed : ℕ
   pub done : ℕ
   pub judged : ℕ
   pub headers : List ℕ
   pub words : s.words ≡ claimed ∷ done ∷ judged ∷ headers
-  pub ruled : IsRuled rows plan claimed done judged headers s.views
+  pub ruled : IsRuled size plan claimed done judged headers s.views
 
 -- the rule: by it each step of a seat is proved
-abbrev pub Holds : ℕ → State (Unit {0}) ClaimView → Type 0
-Holds rows s = IsClosed rows s ⊎ IsOpen rows s
+abbrev pub Holds : TableSize → State (Unit {0}) ClaimView → Type 0
+Holds size s = IsClosed size s ⊎ IsOpen size s

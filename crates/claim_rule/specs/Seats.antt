@@ -5,7 +5,7 @@ use Rattle.claim_rule.specs.declared.view.ClaimView.{ClaimView}
 use Rattle.claim_rule.specs.declared.table.ClaimTable.{ClaimTable}
 use Rattle.claim_rule.specs.declared.seat.ClaimSeat.{ClaimSeat}
 use Rattle.claim_rule.specs.Plan.{Pieces, piece_of, IsPlan}
-use Rattle.claim_rule.specs.Views.{times, unused_view, claim_drawn, judge_drawn}
+use Rattle.claim_rule.specs.Views.{times, new_view, claim_drawn, judge_drawn}
 
 -- what a seat knows
 abbrev pub view_of : ClaimSeat → ClaimView
@@ -14,6 +14,10 @@ view_of seat = seat.seat.me.0
 -- how many rows a table has
 abbrev pub rows_of : ClaimTable → ℕ
 rows_of table = table.rows
+
+-- for how many workers a table is made
+abbrev pub workers_of : ClaimTable → ℕ
+workers_of table = table.workers
 
 -- the seat is one of this table, knows a plan of the table's rows and pieces, and has a share
 pub record IsSeatOf (table : ClaimTable) (seat : ClaimSeat) : Type 0 where
@@ -42,8 +46,8 @@ IsClaimDraw = IsDraw (λ v. v.claiming) claim_drawn
 abbrev pub IsJudgeDraw : ClaimView → ClaimView → Option ℕ → Type 0
 IsJudgeDraw = IsDraw (λ v. v.judging) judge_drawn
 
--- the plan has the pair for a number that the seat has drawn and not finished
-pub record IsOwed (v : ClaimView) (row word : ℕ) : Type 0 where
+-- a seat can claim the row with the word, once or again, where the plan has the pair for a number that it has drawn and not finished
+pub record CanClaim (v : ClaimView) (row word : ℕ) : Type 0 where
   pub piece : ℕ
   pub pending : 0 < times piece v.pending
   pub planned : Contains (piece_of v.plan piece) (row, word)
@@ -58,15 +62,28 @@ pub record IsOnce (v : ClaimView) : Type 0 where
   pub claiming : (x : ℕ) → times x v.claiming.numbers ≤ 1
   pub judging : (x : ℕ) → times x v.judging.numbers ≤ 1
 
+-- the seat has the shares of all workers, so that no other seat of the table has drawn, claimed or finished anything
+abbrev pub HasAllShares : ClaimTable → ClaimView → Type 0
+HasAllShares table v = v.shares ≡ workers_of table
+
+-- each number below n was drawn, and once, if a draw came too late
+abbrev pub HasEach : ℕ → Draws → Type 0
+HasEach n draws = 0 < length draws.late → (x : ℕ) → x < n → times x draws.numbers ≡ 1
+
+-- the seat drew each piece from a counter of which a draw came too late
+pub record HasAllNumbers (v : ClaimView) : Type 0 where
+  pub claiming : HasEach (length v.plan) v.claiming
+  pub judging : HasEach (length v.plan) v.judging
+
 -- no number was given to both
-pub record AreApart (v w : ClaimView) : Type 0 where
+pub record DrewApart (v w : ClaimView) : Type 0 where
   pub claiming : (x : ℕ) → 0 < times x v.claiming.numbers → times x w.claiming.numbers ≡ 0
   pub judging : (x : ℕ) → 0 < times x v.judging.numbers → times x w.judging.numbers ≡ 0
 
 -- a seat that knows the plan, has one share, and has done nothing
-pub record IsUnusedSeatOf (table : ClaimTable) (plan : Pieces) (seat : ClaimSeat) : Type 0 where
+pub record IsNewSeatOf (table : ClaimTable) (plan : Pieces) (seat : ClaimSeat) : Type 0 where
   pub seated : IsSeatOf table seat
-  pub idle : view_of seat ≡ unused_view plan 1 false
+  pub view : view_of seat ≡ new_view plan 1 false
 
 -- a seat can give away some of its shares, where it keeps one, and as many as its draws that came too late
 pub record CanGive (v : ClaimView) (shares : ℕ) : Type 0 where

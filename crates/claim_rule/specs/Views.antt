@@ -17,12 +17,12 @@ abbrev pub no_draws : Draws
 no_draws = record { numbers = []; late = [] }
 
 -- a seat that knows the plan and has done nothing; it may have the flag, from the seat that it was split from
-abbrev pub unused_view : Pieces → ℕ → Bool → ClaimView
-unused_view plan shares stable = record { closed = false; plan = plan; shares = shares; claiming = no_draws; pending = []; claims = []; looks = []; stable = stable; judging = no_draws; joined = [] }
+abbrev pub new_view : Pieces → ℕ → Bool → ClaimView
+new_view plan shares stable = record { closed = false; plan = plan; shares = shares; claiming = no_draws; pending = []; claims = []; looks = []; stable = stable; judging = no_draws; joined = [] }
 
 -- what a join leaves of the seat that was joined
 abbrev pub spent_view : ClaimView
-spent_view = unused_view [] 0 false
+spent_view = new_view [] 0 false
 
 -- the only view of a table that has no plan yet
 abbrev pub closed_view : ClaimView
@@ -64,7 +64,7 @@ shares_kept part v = record v { shares = v.shares - part }
 
 -- and the new one has the plan, the flag and a part of the shares
 abbrev pub shares_given : ℕ → ClaimView → ClaimView
-shares_given part v = unused_view v.plan part v.stable
+shares_given part v = new_view v.plan part v.stable
 
 -- what both have drawn from a counter
 abbrev pub draws_joined : Draws → Draws → Draws

@@ -1,4 +1,3 @@
 -- Laws, with their proofs, for the proofs of the crates above.
 pub mod Times
 pub mod Tops
-pub mod Joins

@@ -17,6 +17,7 @@ mod plan;
 mod plays;
 mod seat;
 mod seats;
+mod size;
 mod steps;
 mod table;
 #[cfg(test)]

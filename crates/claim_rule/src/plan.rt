@@ -34,13 +34,14 @@ impl Opening for Brand {
     ghost shares = { 1 };
 }
 
-/// Names the piece that a step finishes, or how many shares a seat gives away.
-pub(crate) trait Number {
+/// Names the number that a step goes by: the piece that it finishes, how many shares a seat gives away, or how
+/// many workers the table is for.
+pub(crate) trait StepNumber {
     ghost use Rattle.std.specs.Prelude.{ℕ};
 
     ghost number: { ℕ };
 }
 
-impl Number for Brand {
+impl StepNumber for Brand {
     ghost number = { 1 };
 }

@@ -1,13 +1,14 @@
 //! The rule of a table, and what each kind of step tells.
-use crate::plan::{Number, Opening};
+use crate::plan::{Opening, StepNumber};
+use crate::size::TableSize;
 use crate::view::ClaimView;
 use atomic_table::{Join, Play, Split, TableRule};
 use std::marker::PhantomData;
 
-/// The rule; its key is the number of rows.
+/// The rule; its key is the table's size.
 pub struct ClaimRule;
 
-impl TableRule<(), ClaimView, u32> for ClaimRule {
+impl TableRule<(), ClaimView, TableSize> for ClaimRule {
     ghost use Rattle.claim_rule.specs.Rule.{Holds};
     ghost use Rattle.claim_rule.specs.Views.{closed_view};
 
@@ -50,19 +51,21 @@ pub(crate) struct Finish<Q> {
     piece: PhantomData<Q>,
 }
 
-impl<Q: Number> Play<(), ClaimView> for Finish<Q> {
+impl<Q: StepNumber> Play<(), ClaimView> for Finish<Q> {
     ghost use Rattle.claim_rule.specs.inner.Steps.{Finishes};
 
     ghost then = { Finishes Q.number };
 }
 
 /// Looks at done.
-pub(crate) struct SeeDone;
+pub(crate) struct SeeDone<Q> {
+    workers: PhantomData<Q>,
+}
 
-impl Play<(), ClaimView> for SeeDone {
+impl<Q: StepNumber> Play<(), ClaimView> for SeeDone<Q> {
     ghost use Rattle.claim_rule.specs.inner.Steps.{SeesDone};
 
-    ghost then = { SeesDone };
+    ghost then = { SeesDone Q.number };
 }
 
 /// Draws a judging piece.
@@ -83,13 +86,15 @@ impl Play<(), ClaimView> for ReadHeader {
     ghost then = { ReadsHeader };
 }
 
-/// Shows a seat that no number stands twice in its lists.
-pub(crate) struct Settle;
+/// Shows a seat that no number stands twice in its lists, and which stand there.
+pub(crate) struct Settle<Q> {
+    workers: PhantomData<Q>,
+}
 
-impl Play<(), ClaimView> for Settle {
+impl<Q: StepNumber> Play<(), ClaimView> for Settle<Q> {
     ghost use Rattle.claim_rule.specs.inner.Steps.{Settles};
 
-    ghost then = { Settles };
+    ghost then = { Settles Q.number };
 }
 
 /// Splits a seat.
@@ -97,7 +102,7 @@ pub(crate) struct Part<Q> {
     shares: PhantomData<Q>,
 }
 
-impl<Q: Number> Split<ClaimView> for Part<Q> {
+impl<Q: StepNumber> Split<ClaimView> for Part<Q> {
     ghost use Rattle.claim_rule.specs.Views.{shares_kept, shares_given};
 
     ghost left = { shares_kept Q.number };
@@ -106,9 +111,9 @@ impl<Q: Number> Split<ClaimView> for Part<Q> {
 }
 
 /// Joins a seat.
-pub(crate) struct Gather;
+pub(crate) struct TakeIn;
 
-impl Join<ClaimView> for Gather {
+impl Join<ClaimView> for TakeIn {
     ghost use Rattle.claim_rule.specs.Views.{views_joined, spent_view};
 
     ghost both = { views_joined };

@@ -1,11 +1,11 @@
 //! The steps that a seat does on the words.
-ghost use Rattle.std.specs.Prelude.{◌≡◌, ◌<◌, ◌≤◌, true, All, length};
+ghost use Rattle.std.specs.Prelude.{◌≡◌, ◌<◌, ◌≤◌, true, [], All, length};
 ghost use Rattle.claim_rule.specs.Plan.{final_of};
 ghost use Rattle.claim_rule.specs.Views.{row_claimed, piece_finished, done_seen};
-ghost use Rattle.claim_rule.specs.Seats.{view_of, rows_of, IsSeatOf, IsClaimDraw, IsJudgeDraw, IsOwed, IsClaimed};
+ghost use Rattle.claim_rule.specs.Seats.{view_of, rows_of, IsSeatOf, HasAllShares, IsClaimDraw, IsJudgeDraw, CanClaim, IsClaimed};
 ghost use Rattle.claim_rule.specs.inner.Steps.{drawn_at};
 
-use crate::plan::Number;
+use crate::plan::StepNumber;
 use crate::plays::{ClaimRow, DrawClaim, DrawJudge, Finish, ReadHeader, SeeDone};
 use crate::seat::ClaimSeat;
 use crate::table::{CLAIMED, ClaimTable, DONE, HEADERS, JUDGED};
@@ -41,7 +41,7 @@ impl ClaimTable {
     /// Claims the row with the word, which the plan has for a piece that the seat has drawn and not finished.
     pub fn claim_row(&self, seat: &mut ClaimSeat, row: u32, word: u64)
         requires seat { IsSeatOf self.now seat.old }
-        requires owed { IsOwed (view_of seat.old) row word }
+        requires planned { CanClaim (view_of seat.old) row word }
         ensures seat { IsSeatOf self.now seat.new }
         ensures view { view_of seat.new ≡ row_claimed row word (view_of seat.old) }
     {
@@ -60,7 +60,7 @@ impl ClaimTable {
         self.finish_named::<Brand>(seat, piece);
     }
 
-    fn finish_named<Q: Number>(&self, seat: &mut ClaimSeat, _piece: u32)
+    fn finish_named<Q: StepNumber>(&self, seat: &mut ClaimSeat, _piece: u32)
         requires seat { IsSeatOf self.now seat.old }
         requires named { _piece ≡ Q.number }
         requires claimed { IsClaimed (view_of seat.old) Q.number }
@@ -74,7 +74,8 @@ impl ClaimTable {
 
     /// How many pieces are finished: what this call's one look at the done word gave, which the seat keeps. It
     /// is never less than what an earlier look gave. The seat has the flag from then on exactly where these are
-    /// all.
+    /// all. They are all where the seat has the shares of all workers, has finished what it drew, and a draw of
+    /// a claim piece came too late.
     pub fn done(&self, seat: &mut ClaimSeat) -> u32
         requires { IsSeatOf self.now seat.old }
         ensures seat { IsSeatOf self.now seat.new }
@@ -82,8 +83,25 @@ impl ClaimTable {
         ensures within { result ≤ length (view_of seat.old).plan }
         ensures still { (view_of seat.old).stable ≡ true → result ≡ length (view_of seat.old).plan }
         ensures risen { All (λ seen. seen ≤ result) (view_of seat.old).looks }
+        ensures last { HasAllShares self.now (view_of seat.old) → 0 < length (view_of seat.old).claiming.late → (view_of seat.old).pending ≡ [] →
+            result ≡ length (view_of seat.old).plan }
     {
-        let seen = self.table.shared.load::<SeeDone>(&mut seat.seat, DONE);
+        self.done_named::<Brand>(seat, self.workers)
+    }
+
+    fn done_named<Q: StepNumber>(&self, seat: &mut ClaimSeat, _workers: u8) -> u32
+        requires seat { IsSeatOf self.now seat.old }
+        requires named { _workers ≡ Q.number }
+        requires workers { Q.number ≡ self.now.workers }
+        ensures seat { IsSeatOf self.now seat.new }
+        ensures view { view_of seat.new ≡ done_seen result (view_of seat.old) }
+        ensures within { result ≤ length (view_of seat.old).plan }
+        ensures still { (view_of seat.old).stable ≡ true → result ≡ length (view_of seat.old).plan }
+        ensures risen { All (λ seen. seen ≤ result) (view_of seat.old).looks }
+        ensures last { HasAllShares self.now (view_of seat.old) → 0 < length (view_of seat.old).claiming.late → (view_of seat.old).pending ≡ [] →
+            result ≡ length (view_of seat.old).plan }
+    {
+        let seen = self.table.shared.load::<SeeDone<Q>>(&mut seat.seat, DONE);
         seen as u32
     }
 

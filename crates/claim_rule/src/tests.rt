@@ -1,7 +1,7 @@
 //! What no clause says: that counters start at 0 and draws come in their order, and that seats of several
 //! threads come to an end of a plan.
 ghost use Rattle.std.specs.Prelude.{◌≡◌, ◌+◌, ◌<◌, true, All, length};
-ghost use Rattle.claim_rule.specs.Seats.{view_of, rows_of, IsUnusedSeatOf};
+ghost use Rattle.claim_rule.specs.Seats.{view_of, rows_of, IsNewSeatOf};
 ghost use Rattle.claim_rule.specs.Views.{piece_finished};
 ghost use Rattle.claim_rule.specs.inner.Trial.{three_pieces, Plays, IsAtWork, IsClaiming, pairs_claimed};
 
@@ -80,7 +80,7 @@ fn claim_all(table: &ClaimTable, seat: &mut ClaimSeat)
 /// A worker of its own thread.
 fn worked(table: &ClaimTable, seat: ClaimSeat) -> ClaimSeat
     requires rows { rows_of table.now ≡ 3 }
-    requires seat { IsUnusedSeatOf table.now three_pieces seat }
+    requires seat { IsNewSeatOf table.now three_pieces seat }
     ensures { Plays table.now result }
 {
     let mut seat = seat;

@@ -31,7 +31,7 @@ use Rattle.merge_round.proofs.Finals.{beaten_word, winner_word, no_winner_word, 
 
 -- ---- a candidate by its number
 
-get_among : {X : Type 0} → (xs : List X) (i : ℕ) (x : X) → slice_get xs i ≡ Some x → Contains xs x
+pub get_among : {X : Type 0} → (xs : List X) (i : ℕ) (x : X) → slice_get xs i ≡ Some x → Contains xs x
 get_among [] i x at = absurd (none-some _ at)
 get_among (y ∷ ys) zero x at = subst (Contains (y ∷ ys)) (same_Some _ _ at) (among_first y ys)
 get_among (y ∷ ys) (suc i) x at = among_later y x ys (get_among ys i x at)
@@ -212,6 +212,13 @@ numbers_bounded rows names known = All-from_recursion (λ n. n < length rows) (m
     by [] known = tt
     by (n ∷ ns) known = ((number_named rows n (known n (among_first n ns))).0, by ns (λ r h. known r (among_later n r ns h)))
 
+-- the rows of an entry are the round's
+pub entry_rows : (all : List Placed) (number : ℕ) (e : Entry) → IsEntry all number e → All (λ row. row < length (rows_in all)) e.rows
+entry_rows all number e entry =
+    let c = entry.candidate in
+    subst (λ (x : Entry). All (λ row. row < length (rows_in all)) x.rows) (sym entry.is)
+    (numbers_bounded (rows_in all) (keys_of c.set) (λ r h. row_known all c r entry.among h))
+
 -- ---- the same of an entry, in a round
 
 module _ (round : Round) (claims : AreClaims round.all) (number : ℕ) (e : Entry) (entry : IsEntry round.all number e) where
@@ -267,10 +274,7 @@ module _ (round : Round) (claims : AreClaims round.all) (number : ℕ) (e : Entr
 
   pub entry_bounded : (rows : List RowId) (table : ClaimTable) → rows ≡ rows_in round.all → rows_of table ≡ length rows → All (λ row. row < rows_of table) e.rows
   entry_bounded rows table named tabled =
-      let c = entry.candidate in
-      subst (λ (x : Entry). All (λ row. row < rows_of table) x.rows) (sym entry.is)
-      (subst (λ (n : ℕ). All (λ row. row < n) (map (number_in (rows_in round.all)) (keys_of c.set))) (sym (tabled ∙ ap length named))
-      (numbers_bounded (rows_in round.all) (keys_of c.set) (λ r h. row_known round.all c r entry.among h)))
+      subst (λ (n : ℕ). All (λ row. row < n) e.rows) (sym (tabled ∙ ap length named)) (entry_rows round.all number e entry)
 
   pub entry_large : (word n found : ℕ) (plan : Pieces) → word ≡ word_of (claim_in e) → found_pair n found ≡ first_above (final_of plan) word e.rows → 2 ^ 32 ≤ found
   entry_large word n found plan word_is lost =

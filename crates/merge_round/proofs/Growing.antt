@@ -22,7 +22,7 @@ use Rattle.merge_round.specs.inner.Entries.{entry_of, NumbersRows, GrowsBy}
 use Rattle.merge_round.proofs.Numbers.{inserted_has, inserted_kept, all_rows}
 
 -- behind rows that have it, others leave a row its number
-number_stays : (rows more : List RowId) (row : RowId) → Contains rows row → number_in (rows ++ more) row ≡ number_in rows row
+pub number_stays : (rows more : List RowId) (row : RowId) → Contains rows row → number_in (rows ++ more) row ≡ number_in rows row
 number_stays [] more row h = absurd (among_none row h)
 number_stays (x ∷ xs) more row h = by (row_eq row x) refl (among_cases x xs row h) (λ later. number_stays xs more row later)
   where

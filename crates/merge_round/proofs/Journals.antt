@@ -1,18 +1,20 @@
 -- A round of a journal's epoch judges as the journal does.
-use Rattle.std.proofs.Common.{◌≡◌, ℕ, suc, ◌+◌, nat_lt, nat_le, Bool, true, false, not, ◌&&◌, Option, None, Some, List, [], ◌∷◌, length, map, filter, Contains, refl, sym, ap, ◌∙◌, arith}
+use Rattle.std.proofs.Common.{◌≡◌, ℕ, suc, ◌+◌, nat_lt, nat_le, Bool, true, false, cond, not, ◌&&◌, Option, None, Some, List, [], ◌∷◌, length, map, filter, Contains, refl, sym, ap, ◌∙◌, arith}
 use Rattle.std.specs.Prelude.{find, unwrap_or}
 use Rattle.std.specs.List.{list_any, list_all}
 use Rattle.std.proofs.lemmas.Bool.Decides.{nat_tests}
+use Rattle.std.specs.Map.{keys_of}
 use Rattle.geo_base.specs.declared.row_id.RowId.{RowId}
+use Rattle.geo_base.specs.Claims.{word_of}
 use Rattle.geo_base.specs.declared.outcome.Outcome.{Outcome}
 use Rattle.geo_base.specs.declared.outcome.Outcome.TheVariants as outcome
 use Rattle.write_set.specs.Sets.{ChangeOfRow, has_row}
-use Rattle.write_set.specs.Journal.{Journal, Placed, epochs_of}
-use Rattle.write_set.specs.Merge.{wins, id_of, is_fresh, contenders, is_beaten_on, winner_of, first_changed, first_beaten, changed_or, beaten_or_committed, verdict_of, verdicts, last_change}
+use Rattle.write_set.specs.Journal.{Journal, Placed, batches_at, candidates_of, epochs_of}
+use Rattle.write_set.specs.Merge.{claim_of, wins, id_of, is_fresh, contenders, is_beaten_on, winner_of, first_changed, first_beaten, changed_or, beaten_or_committed, verdict_of, verdicts, last_change}
 use Rattle.write_set.specs.laws.Among.{among_first, among_later}
 use Rattle.write_set.specs.laws.Rivals.{row_among}
 use Rattle.write_set.specs.laws.Placing.{length_epochs}
-use Rattle.merge_round.specs.Rounds.{Round, Serves, IsRoundOf, outcomes_of}
+use Rattle.merge_round.specs.Rounds.{Round, Serves, IsRoundOf, rows_in, number_in, claims_of, plan_by, plan_of, outcomes_of}
 use Rattle.merge_round.proofs.Deciding.{find_same}
 use Rattle.merge_round.proofs.Finals.{found_passes}
 
@@ -24,7 +26,7 @@ filter_same : (f g : Placed → Bool) (cs : List Placed) → ((c : Placed) → C
 filter_same f g [] same = refl
 filter_same f g (c ∷ cs) same = rw (same c (among_first c cs), filter_same f g cs (λ d h. same d (among_later c d cs h))) refl
 
-map_same : (f g : Placed → Outcome) (cs : List Placed) → ((c : Placed) → Contains cs c → f c ≡ g c) → map f cs ≡ map g cs
+map_same : {B : Type 0} → (f g : Placed → B) (cs : List Placed) → ((c : Placed) → Contains cs c → f c ≡ g c) → map f cs ≡ map g cs
 map_same f g [] same = refl
 map_same f g (c ∷ cs) same = rw (same c (among_first c cs), map_same f g cs (λ d h. same d (among_later c d cs h))) refl
 
@@ -47,6 +49,11 @@ module _ (all : List Placed) (changed held : RowId → ℕ)
   fresh_same : (c : Placed) → Contains all c → is_fresh held c ≡ is_fresh changed c
   fresh_same c hc = all_same (λ p. nat_le (held p.0) c.start) (λ p. nat_le (changed p.0) c.start) c.set
       (λ p hp. below_same c.start (changed p.0) (held p.0) (of_change c p hc hp))
+
+  -- what they claim
+  plans_same : plan_by held all ≡ plan_by changed all
+  plans_same = map_same (claims_of held (rows_in all)) (claims_of changed (rows_in all)) all
+      (λ c hc. ap (λ (b : Bool). cond b (map (λ row. (number_in (rows_in all) row, word_of (claim_of c))) (keys_of c.set)) []) (fresh_same c hc))
 
   contenders_same : (row : RowId) → contenders held all row ≡ contenders changed all row
   contenders_same row = filter_same (λ d. is_fresh held d && has_row row d.set) (λ d. is_fresh changed d && has_row row d.set) all
@@ -91,6 +98,12 @@ module _ (all : List Placed) (changed held : RowId → ℕ)
           let after = found.1 in
           let same : held p.0 ≡ changed p.0 = (of_change c p hc found.0).above (grind (arith, nat_tests)) in
           rw (changed_is, is) (ap (λ (n : ℕ). outcome.Changed p.0 n) same)
+
+pub plans_as_journal : (journal : Journal) (place : ℕ) (round : Round) → IsRoundOf journal place round →
+    plan_of round ≡ plan_by (last_change (epochs_of journal place)) (candidates_of (batches_at journal place))
+plans_as_journal journal place round is =
+    let older = last_change (epochs_of journal place) in
+    plans_same round.all older round.last (λ c row among has. is.last c row among has) ∙ ap (plan_by older) is.all
 
 pub judges_as_journal : (journal : Journal) (place : ℕ) (round : Round) → IsRoundOf journal place round → outcomes_of round ≡ verdicts (epochs_of journal (place + 1))
 judges_as_journal journal place round is =

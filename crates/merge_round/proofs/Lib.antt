@@ -8,3 +8,4 @@ mod Lawful
 mod Whole
 mod Outcomes
 mod Journals
+mod Naming

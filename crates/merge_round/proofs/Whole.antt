@@ -1,24 +1,25 @@
 -- Seats are brought together: the whole has what each of them had.
-use Rattle.std.proofs.Common.{◌≡◌, ⊎_elim, ℕ, zero, suc, ◌<◌, ◌≤◌, nat_lt, Bool, true, false, cond, Option, None, Some, List, [], ◌∷◌, length, map, All, Contains, refl, sym, ap, ◌∙◌, subst, arith}
+use Rattle.std.proofs.Common.{◌≡◌, ⊎_elim, ℕ, zero, suc, ◌<◌, ◌≤◌, nat_lt, Bool, true, false, cond, Option, None, Some, List, [], ◌∷◌, length, map, All, Contains, refl, sym, ap, ◌∙◌, arith}
 use Rattle.std.specs.Prelude.{sum_by, slice_index_or}
 use Rattle.std.specs.List.{slice_get, AllByRecursion}
 use Rattle.std.specs.Option.{option_map}
 use Rattle.std.proofs.lemmas.Bool.Decides.{nat_tests}
 use Rattle.std.proofs.lemmas.Option.{none-some}
 use Rattle.std.proofs.lemmas.List.Sums.{sum_by-cons}
-use Rattle.std.proofs.lemmas.List.Elements.{All-from_recursion}
+use Rattle.std.proofs.lemmas.List.{length-append, length-map}
+use Rattle.std.proofs.lemmas.List.Elements.{All-head, All-tail, All-contains, All-from_recursion}
 use Rattle.write_set.specs.Journal.{Placed}
 use Rattle.write_set.specs.laws.Among.{among_none, among_first, among_later, among_cases}
 use Rattle.claim_rule.specs.declared.view.ClaimView.{ClaimView}
 use Rattle.claim_rule.specs.Views.{times, views_joined}
-use Rattle.claim_rule.specs.Seats.{AreApart}
+use Rattle.claim_rule.specs.Seats.{workers_of, DrewApart, IsOnce, HasAllShares}
 use Rattle.claim_rule.specs.laws.Times.{times-append}
 use Rattle.merge_round.specs.declared.verdict.Verdict.{Verdict}
 use Rattle.merge_round.specs.declared.seat.WorkerSeat.{WorkerSeat}
 use Rattle.merge_round.specs.Rounds.{Round, rows_in, numbered, outcome_in, verdict_on}
-use Rattle.merge_round.specs.Seats.{work_of, verdicts_of, held_by, IsWorkerOf}
-use Rattle.merge_round.specs.Gathers.{IsJudgedBy, IsFirstUnjudged}
-use Rattle.merge_round.specs.inner.Gathering.{all_verdicts, HasVerdict, IsFirstLacking, IsWhole, IsGathered}
+use Rattle.merge_round.specs.Seats.{work_of, verdicts_of, held_by, IsWorkerOf, IsNewWorkerOf}
+use Rattle.merge_round.specs.Gathers.{IsJudgedBy, IsFirstUnjudged, AreAllSeats, HasLateJudge}
+use Rattle.merge_round.specs.inner.Gathering.{all_verdicts, HasVerdict, IsFirstLacking, IsWhole, IsSettled, IsGathered}
 
 -- ---- sums
 
@@ -50,11 +51,13 @@ pub one_whole : (seat : WorkerSeat) → IsWhole (seat ∷ []) seat
 one_whole seat = record {
   claimed = λ x. omega (arith, sum_by-cons (λ (s : WorkerSeat). times x (work_of s).claiming.numbers) seat []);
   judged = λ x. omega (arith, sum_by-cons (λ (s : WorkerSeat). times x (work_of s).judging.numbers) seat []);
-  apart = (All-from_recursion (λ (other : WorkerSeat). AreApart (work_of seat) (work_of other)) [] tt, tt);
+  shares = omega (arith, sum_by-cons (λ (s : WorkerSeat). (work_of s).shares) seat []);
+  late = omega (arith, sum_by-cons (λ (s : WorkerSeat). length (work_of s).judging.late) seat []);
+  apart = (All-from_recursion (λ (other : WorkerSeat). DrewApart (work_of seat) (work_of other)) [] tt, tt);
 }
 
 pub more_whole : (taken : List WorkerSeat) (whole other new : WorkerSeat) → IsWhole taken whole → work_of new ≡ views_joined (work_of whole) (work_of other) →
-    AreApart (work_of whole) (work_of other) → IsWhole (other ∷ taken) new
+    DrewApart (work_of whole) (work_of other) → IsWhole (other ∷ taken) new
 more_whole taken whole other new is joined apart = record {
   claimed = λ x. (let here = is.claimed x in
       let at = ap (λ (v : ClaimView). times x v.claiming.numbers) joined in
@@ -62,10 +65,16 @@ more_whole taken whole other new is joined apart = record {
   judged = λ x. (let here = is.judged x in
       let at = ap (λ (v : ClaimView). times x v.judging.numbers) joined in
       omega (arith, times-append x (work_of whole).judging.numbers (work_of other).judging.numbers, sum_by-cons (λ (s : WorkerSeat). times x (work_of s).judging.numbers) other taken));
-  apart = (All-from_recursion (λ (s : WorkerSeat). AreApart (work_of other) (work_of s)) taken (by taken (λ s h. h)), is.apart);
+  shares = (let here = is.shares in
+      let at = ap (λ (v : ClaimView). v.shares) joined in
+      omega (arith, sum_by-cons (λ (s : WorkerSeat). (work_of s).shares) other taken));
+  late = (let here = is.late in
+      let at = ap (λ (v : ClaimView). length v.judging.late) joined in
+      omega (arith, length-append (work_of whole).judging.late (work_of other).judging.late, sum_by-cons (λ (s : WorkerSeat). length (work_of s).judging.late) other taken));
+  apart = (All-from_recursion (λ (s : WorkerSeat). DrewApart (work_of other) (work_of s)) taken (by taken (λ s h. h)), is.apart);
 }
   where
-    one : (s : WorkerSeat) → Contains taken s → AreApart (work_of other) (work_of s)
+    one : (s : WorkerSeat) → Contains taken s → DrewApart (work_of other) (work_of s)
     one s h = record {
       claiming = λ x has. none (times x (work_of s).claiming.numbers) (times x (work_of s).claiming.numbers) refl (λ more. let above = sum_above (λ (t : WorkerSeat). times x (work_of t).claiming.numbers) taken s h in
           let here = is.claimed x in let gone = apart.claiming x (omega arith) in omega arith);
@@ -77,9 +86,40 @@ more_whole taken whole other new is joined apart = record {
         none zero m e never = sym e
         none (suc n) m e never = absurd (never (omega arith))
 
-    by : (ts : List WorkerSeat) → ((s : WorkerSeat) → Contains ts s → Contains taken s) → AllByRecursion (λ (s : WorkerSeat). AreApart (work_of other) (work_of s)) ts
+    by : (ts : List WorkerSeat) → ((s : WorkerSeat) → Contains ts s → Contains taken s) → AllByRecursion (λ (s : WorkerSeat). DrewApart (work_of other) (work_of s)) ts
     by [] all = tt
     by (t ∷ ts) all = (one t (all t (among_first t ts)), by ts (λ s h. all s (among_later t s ts h)))
+
+-- a seat that shows what it has drawn has what it had
+pub settled_whole : (seats : List WorkerSeat) (whole new : WorkerSeat) → work_of new ≡ work_of whole → IsWhole seats whole → IsWhole seats new
+settled_whole seats whole new same is = record {
+  claimed = λ x. ap (λ (v : ClaimView). times x v.claiming.numbers) same ∙ is.claimed x;
+  judged = λ x. ap (λ (v : ClaimView). times x v.judging.numbers) same ∙ is.judged x;
+  shares = ap (λ (v : ClaimView). v.shares) same ∙ is.shares;
+  late = ap (λ (v : ClaimView). length v.judging.late) same ∙ is.late;
+  apart = is.apart;
+}
+
+-- where the whole drew no number twice, none of the seats did
+pub once_each : (seats : List WorkerSeat) (whole : WorkerSeat) → IsWhole seats whole → IsOnce (work_of whole) → All (λ seat. IsOnce (work_of seat)) seats
+once_each seats whole is once = All-from_recursion (λ (seat : WorkerSeat). IsOnce (work_of seat)) seats (by seats (λ s h. h))
+  where
+    by : (ts : List WorkerSeat) → ((s : WorkerSeat) → Contains ts s → Contains seats s) → AllByRecursion (λ (s : WorkerSeat). IsOnce (work_of s)) ts
+    by [] all = tt
+    by (t ∷ ts) all =
+        let among = all t (among_first t ts) in (
+          record {
+            claiming = λ x. (let one = once.claiming x in
+                let here = is.claimed x in
+                let above = sum_above (λ (s : WorkerSeat). times x (work_of s).claiming.numbers) seats t among in
+                omega arith);
+            judging = λ x. (let one = once.judging x in
+                let here = is.judged x in
+                let above = sum_above (λ (s : WorkerSeat). times x (work_of s).judging.numbers) seats t among in
+                omega arith);
+          },
+          by ts (λ s h. all s (among_later t s ts h)),
+        )
 
 -- ---- what the whole holds
 
@@ -95,9 +135,25 @@ on_each round number within = by (slice_get round.all number) refl
     by None is = absurd (some_at round.all number within is)
     by (Some c) is = (numbered (rows_in round.all) (outcome_in round c), refl)
 
-pub whole_gathers : (round : Round) (seats : List WorkerSeat) (whole : WorkerSeat) → IsWorkerOf round whole → IsWhole seats whole → IsGathered round seats (verdicts_of whole)
-whole_gathers round seats whole worker is = record {
+-- a seat with the shares of all workers, of which a draw to judge came too late, judged each candidate
+all_judging : (round : Round) (whole : WorkerSeat) → IsWorkerOf round whole → HasAllShares round.table (work_of whole) → IsSettled round whole →
+    0 < length (work_of whole).judging.late → (number : ℕ) → number < length round.all → times number (work_of whole).judging.numbers ≡ 1
+all_judging round whole worker all settled late number within =
+    let long : length (work_of whole).plan ≡ length round.all = ap length worker.planned ∙ length-map round.all _ in
+    (settled.all all).judging late number (omega arith)
+
+pub whole_gathers : (round : Round) (seats : List WorkerSeat) (whole : WorkerSeat) → IsWorkerOf round whole → IsWhole seats whole → IsSettled round whole → IsGathered round seats (verdicts_of whole)
+whole_gathers round seats whole worker is settled = record {
   apart = is.apart;
+  once = once_each seats whole is settled.once;
+  whole = λ all (late : HasLateJudge seats) number within.
+      let some_late : 0 < length (work_of whole).judging.late = (let sum = is.late in
+      let above = sum_above (λ (s : WorkerSeat). length (work_of s).judging.late) seats late.0 late.1 in
+      let more = late.2 in
+      omega arith) in
+      let each = all_judging round whole worker (is.shares ∙ all) settled some_late number within in
+      let at = is.judged number in
+      sum_found (λ (s : WorkerSeat). times number (work_of s).judging.numbers) seats (omega arith);
   long = (let long = worker.room in omega arith);
   judged = λ number has. judged number has (nat_lt 0 (times number (work_of whole).judging.numbers)) refl (worker.holds number);
   lacking = λ number within none. lacking number within none (nat_lt 0 (times number (work_of whole).judging.numbers)) refl (worker.holds number);
@@ -116,15 +172,6 @@ whole_gathers round seats whole worker is = record {
     lacking number within none false more holds =
         let at = is.judged number in
         sum_none (λ (s : WorkerSeat). times number (work_of s).judging.numbers) seats (grind (arith, nat_tests))
-
-pub nothing_gathers : (round : Round) (seats : List WorkerSeat) (verdicts : List (Option Verdict)) → seats ≡ [] → verdicts ≡ [] → IsGathered round seats verdicts
-nothing_gathers round seats verdicts nobody none =
-    subst (λ (l : List WorkerSeat). IsGathered round l verdicts) (sym nobody) (subst (λ (l : List (Option Verdict)). IsGathered round [] l) (sym none) (record {
-      apart = tt;
-      long = omega arith;
-      judged = λ number has. absurd (none-some _ has.1);
-      lacking = λ number within is. All-from_recursion (λ (seat : WorkerSeat). times number (work_of seat).judging.numbers ≡ 0) [] tt;
-    }))
 
 pub first_is : (round : Round) (seats : List WorkerSeat) (verdicts : List (Option Verdict)) (count number : ℕ) → IsGathered round seats verdicts → count ≡ length round.all →
     IsFirstLacking verdicts count number → IsFirstUnjudged round seats number
@@ -159,3 +206,41 @@ all_there round seats verdicts count is counted has = by verdicts round.all is.l
 pub all_judged : (round : Round) (seats : List WorkerSeat) (verdicts : List (Option Verdict)) (count : ℕ) → IsGathered round seats verdicts → count ≡ length round.all →
     ((number : ℕ) → number < count → HasVerdict verdicts number) → (number : ℕ) → number < length round.all → IsJudgedBy seats number
 all_judged round seats verdicts count is counted has number within = (is.judged number (has number (omega arith))).0
+
+-- so where the seats are all, and one of them had a draw to judge that came too late, none is unjudged
+pub none_unjudged : (round : Round) (seats : List WorkerSeat) (verdicts : List (Option Verdict)) (number : ℕ) → IsGathered round seats verdicts →
+    IsFirstUnjudged round seats number → AreAllSeats round seats → HasLateJudge seats → ⊥
+none_unjudged round seats verdicts number is first all late =
+    let judge = is.whole all late number first.within in
+    let none = All-contains (λ (seat : WorkerSeat). times number (work_of seat).judging.numbers ≡ 0) seats judge.0 first.unjudged judge.1 in
+    let more = judge.2 in
+    absurd (omega arith)
+
+-- and a seat that has the shares of all workers holds all verdicts then
+pub holds_all : (round : Round) (whole : WorkerSeat) → IsWorkerOf round whole → HasAllShares round.table (work_of whole) → IsSettled round whole →
+    0 < length (work_of whole).judging.late → verdicts_of whole ≡ all_verdicts round
+holds_all round whole worker all settled late =
+    all_there round (whole ∷ []) (verdicts_of whole) (length round.all) (whole_gathers round (whole ∷ []) whole worker (one_whole whole) settled) refl
+    (λ number within. has number within (nat_lt 0 (times number (work_of whole).judging.numbers)) refl (worker.holds number))
+  where
+    has : (number : ℕ) → number < length round.all → (b : Bool) → nat_lt 0 (times number (work_of whole).judging.numbers) ≡ b →
+        held_by whole number ≡ cond b (verdict_on round number) None → HasVerdict (verdicts_of whole) number
+    has number within true more holds = let each = on_each round number within in (each.0, holds ∙ each.1)
+    has number within false none holds = let one = all_judging round whole worker all settled late number within in absurd (grind (arith, nat_tests))
+
+-- ---- all seats
+
+-- all seats are some
+pub some_seat : (round : Round) → AreAllSeats round [] → 0 < workers_of round.table → ⊥
+some_seat round all some_worker = absurd (omega arith)
+
+-- seats of one share each, as many as workers, are all
+pub new_seats : (round : Round) (seats : List WorkerSeat) → All (IsNewWorkerOf round) seats → length seats ≡ workers_of round.table → AreAllSeats round seats
+new_seats round seats new count = by seats new ∙ count
+  where
+    by : (ts : List WorkerSeat) → All (IsNewWorkerOf round) ts → sum_by (λ (seat : WorkerSeat). (work_of seat).shares) ts ≡ length ts
+    by [] new = refl
+    by (t ∷ ts) new =
+        let one : (work_of t).shares ≡ 1 = ap (λ (v : ClaimView). v.shares) (All-head (IsNewWorkerOf round) t ts new).work in
+        let rest : sum_by (λ (seat : WorkerSeat). (work_of seat).shares) ts ≡ length ts = by ts (All-tail (IsNewWorkerOf round) t ts new) in
+        omega (arith, sum_by-cons (λ (seat : WorkerSeat). (work_of seat).shares) t ts)

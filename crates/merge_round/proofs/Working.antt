@@ -38,7 +38,7 @@ makes_claims round old new d number worker over draw view =
     let v = work_of old in
     let pairs = piece_of (plan_of round) number in
     let drawn : d ≡ claim_drawn (Some number) number v = draw.leaves ∙ ap (λ (f : ℕ). claim_drawn (Some number) f v) (sym draw.tells.3) in
-    let none : times number v.pending ≡ 0 = times_none number v.pending (ap length worker.idle) in
+    let none : times number v.pending ≡ 0 = times_none number v.pending (ap length worker.finished) in
     let is : work_of new ≡ record v { claiming = draws_after (Some number) number v.claiming; claims = v.claims ++ pairs } =
     view ∙ ap (λ (x : ClaimView). piece_finished number (claims_made pairs x)) drawn
     ∙ ap (λ (l : List ℕ). record v { claiming = draws_after (Some number) number v.claiming; claims = v.claims ++ pairs; pending = l }) (without-pushed number v.pending none) in
@@ -46,6 +46,7 @@ makes_claims round old new d number worker over draw view =
     record {
       within = (let below = draw.tells.0 in omega arith);
       lacked = draw.tells.1;
+      room = (let more = draw.tells.2 in omega arith);
       unspent = ap (λ (x : ClaimView). x.claiming.late) is ∙ not_late (length round.all) old.claims_over v.claiming worker.claims_over over;
       work = is;
       made = subst (λ (x : ClaimView). All (Contains x.claims) pairs) (sym is) (all_made v.claims pairs);

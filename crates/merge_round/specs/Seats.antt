@@ -4,8 +4,8 @@ use Rattle.claim_rule.specs.declared.view.Draws.{Draws}
 use Rattle.claim_rule.specs.declared.view.ClaimView.{ClaimView}
 use Rattle.claim_rule.specs.Plan.{piece_of}
 use Rattle.claim_rule.specs.Rule.{IsFinished}
-use Rattle.claim_rule.specs.Views.{times, unused_view, draws_after, done_seen}
-use Rattle.claim_rule.specs.Seats.{view_of, IsSeatOf}
+use Rattle.claim_rule.specs.Views.{times, no_draws, new_view, draws_after, done_seen}
+use Rattle.claim_rule.specs.Seats.{view_of, IsSeatOf, HasAllShares}
 use Rattle.merge_round.specs.declared.verdict.Verdict.{Verdict}
 use Rattle.merge_round.specs.declared.seat.WorkerSeat.{WorkerSeat}
 use Rattle.merge_round.specs.declared.claiming.Claimed.{Claimed}
@@ -39,20 +39,21 @@ pub record IsTold (n : ℕ) (over : Bool) (draws : Draws) : Type 0 where
   pub beyond : All (λ x. n ≤ x) draws.late
 
 -- the seat is one of this round, between two calls: all that it drew is finished, and it holds the verdicts on the candidates that it
--- drew to judge and no others
+-- drew to judge and no others, which is none before it has seen all claims made
 pub record IsWorkerOf (round : Round) (seat : WorkerSeat) : Type 0 where
   pub seated : IsSeatOf round.table seat.claims
   pub planned : (work_of seat).plan ≡ plan_of round
-  pub idle : (work_of seat).pending ≡ []
+  pub finished : (work_of seat).pending ≡ []
   pub claims_over : IsTold (length round.all) seat.claims_over (work_of seat).claiming
   pub judging_over : IsTold (length round.all) seat.judging_over (work_of seat).judging
+  pub judging : (work_of seat).stable ≡ false → (work_of seat).judging ≡ no_draws
   pub room : length (verdicts_of seat) ≡ length round.all
   pub holds : (number : ℕ) → held_by seat number ≡ cond (nat_lt 0 (times number (work_of seat).judging.numbers)) (verdict_on round number) None
 
 -- a seat of this round that has done nothing
 pub record IsNewWorkerOf (round : Round) (seat : WorkerSeat) : Type 0 where
   pub worker : IsWorkerOf round seat
-  pub idle : work_of seat ≡ unused_view (plan_of round) 1 false
+  pub work : work_of seat ≡ new_view (plan_of round) 1 false
 
 -- draws are over: an earlier one gave a number that isn't below n, and nothing was drawn now; or the one now did
 abbrev pub EndsDraws : ℕ → Draws → Draws → Type 0
@@ -60,10 +61,11 @@ EndsDraws n old new =
     ((0 < length old.late) × (new ≡ old))
     ⊎ ((old.late ≡ []) × ((found : ℕ) × (n ≤ found) × (new ≡ draws_after None found old)))
 
--- the seat drew the candidate, which it lacked, made all claims that the plan has for it, and finished it
+-- the seat drew the candidate, which it lacked, as it had fewer than there are, made all claims that the plan has for it, and finished it
 pub record MakesClaims (round : Round) (old new : WorkerSeat) (number : ℕ) : Type 0 where
   pub within : number < length round.all
   pub lacked : times number (work_of old).claiming.numbers ≡ 0
+  pub room : length (work_of old).claiming.numbers < length round.all
   pub unspent : (work_of new).claiming.late ≡ []
   pub work : work_of new ≡ record (work_of old) { claiming = draws_after (Some number) number (work_of old).claiming; claims = (work_of old).claims ++ piece_of (plan_of round) number }
   pub made : All (Contains (work_of new).claims) (piece_of (plan_of round) number)
@@ -79,16 +81,21 @@ abbrev pub Claims : Round → WorkerSeat → WorkerSeat → Claimed → Type 0
 Claims round old new (claimed.Made number) = MakesClaims round old new number
 Claims round old new claimed.Spent = EndsClaims round old new
 
--- the call's look at the done word gave fewer candidates than there are
+-- the call's look at the done word gave fewer candidates than there are, and no fewer than an earlier look. The seat hadn't seen all
+-- claims made; and where it has the shares of all workers, none of its draws of a candidate to claim for came too late
 pub record SeesUnfinished (round : Round) (old new : WorkerSeat) (done : ℕ) : Type 0 where
   pub fewer : done < length round.all
+  pub unstable : (work_of old).stable ≡ false
+  pub risen : All (λ seen. seen ≤ done) (work_of old).looks
+  pub timely : HasAllShares round.table (work_of old) → (work_of old).claiming.late ≡ []
   pub work : work_of new ≡ done_seen done (work_of old)
   pub kept : verdicts_of new ≡ verdicts_of old
 
--- the call's look at the done word gave all candidates; it drew this one, which the seat lacked, and found this verdict on it
+-- the call's look at the done word gave all candidates; it drew this one, which the seat lacked, as it had fewer than there are, and found this verdict on it
 pub record FindsVerdict (round : Round) (old new : WorkerSeat) (number : ℕ) (verdict : Verdict) : Type 0 where
   pub is : verdict_on round number ≡ Some verdict
   pub lacked : times number (work_of old).judging.numbers ≡ 0
+  pub room : length (work_of old).judging.numbers < length round.all
   pub unspent : (work_of new).judging.late ≡ []
   pub work : work_of new ≡ record (done_seen (length round.all) (work_of old)) { judging = draws_after (Some number) number (work_of old).judging }
 

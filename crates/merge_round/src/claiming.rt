@@ -5,8 +5,8 @@ ghost use Rattle.claim_rule.specs.Plan.{piece_of};
 ghost use Rattle.claim_rule.specs.Views.{times, piece_finished};
 ghost use Rattle.claim_rule.specs.Seats.{view_of, IsSeatOf};
 ghost use Rattle.merge_round.specs.Rounds.{rows_in, plan_of};
-ghost use Rattle.merge_round.specs.Seats.{round_of, IsWorkerOf, Claims, verdicts_of};
-ghost use Rattle.merge_round.specs.inner.Entries.{first_above, last_at, claim_in, claims_made};
+ghost use Rattle.merge_round.specs.Seats.{round_of, work_of, IsWorkerOf, Claims, verdicts_of};
+ghost use Rattle.merge_round.specs.inner.Entries.{first_above, last_at, claim_in, claims_made, IsClaimingFor};
 
 use crate::numbering::Entry;
 use crate::round::MergeRound;
@@ -36,6 +36,7 @@ impl<C: Changes> MergeRound<C> {
         ensures seat { IsWorkerOf (round_of self.now) seat.new }
         ensures claims { Claims (round_of self.now) seat.old seat.new result }
         ensures kept { verdicts_of seat.new ≡ verdicts_of seat.old }
+        ensures shares { (work_of seat.new).shares ≡ (work_of seat.old).shares }
     {
         if seat.claims_over {
             return Claimed::Spent;
@@ -54,10 +55,7 @@ impl<C: Changes> MergeRound<C> {
 
     /// Makes all claims of the candidate, which the seat has drawn, and finishes it.
     fn claim(&self, seat: &mut ClaimSeat, number: u32)
-        requires seat { IsSeatOf (round_of self.now).table seat.old }
-        requires plan { (view_of seat.old).plan ≡ plan_of (round_of self.now) }
-        requires within { number < length (round_of self.now).all }
-        requires drawn { 0 < times number (view_of seat.old).pending }
+        requires { IsClaimingFor (round_of self.now) seat.old number }
         ensures seat { IsSeatOf (round_of self.now).table seat.new }
         ensures view { view_of seat.new ≡ piece_finished number (claims_made (piece_of (plan_of (round_of self.now)) number) (view_of seat.old)) }
     {
@@ -67,14 +65,11 @@ impl<C: Changes> MergeRound<C> {
 
     /// Makes all claims of the candidate.
     fn claim_all(&self, seat: &mut ClaimSeat, number: u32)
-        requires seat { IsSeatOf (round_of self.now).table seat.old }
-        requires plan { (view_of seat.old).plan ≡ plan_of (round_of self.now) }
-        requires within { number < length (round_of self.now).all }
-        requires drawn { 0 < times number (view_of seat.old).pending }
+        requires { IsClaimingFor (round_of self.now) seat.old number }
         ensures seat { IsSeatOf (round_of self.now).table seat.new }
         ensures view { view_of seat.new ≡ claims_made (piece_of (plan_of (round_of self.now)) number) (view_of seat.old) }
     {
-        let entry = &self.entries[number as usize];
+        let entry = self.entry(number);
         match self.first_changed(entry) {
             Some(_) => {}
             None => claim_rows(
@@ -90,6 +85,7 @@ impl<C: Changes> MergeRound<C> {
     /// The first of the candidate's rows that was changed after its start, and its last change. It asks for
     /// the last change of each row at most once, and of no other row.
     pub(crate) fn first_changed(&self, entry: &Entry) -> Option<(u32, Epoch)>
+        requires { All (λ row. row < length (rows_in (round_of self.now).all)) entry.now.rows }
         ensures { result ≡ first_above (last_at (round_of self.now).last (rows_in (round_of self.now).all)) entry.now.start entry.now.rows }
     {
         for number in entry.rows.items() {
@@ -103,12 +99,10 @@ impl<C: Changes> MergeRound<C> {
 
     /// The last change of the row with the number.
     fn last_change(&self, number: u32) -> Epoch
+        requires { number < length (rows_in (round_of self.now).all) }
         ensures { result ≡ last_at (round_of self.now).last (rows_in (round_of self.now).all) number }
     {
-        match self.rows.get_index(number as usize) {
-            Some(row) => self.input.before.last_change(row),
-            None => 0,
-        }
+        self.input.before.last_change(self.row_at(number))
     }
 }
 

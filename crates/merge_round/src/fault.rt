@@ -1,3 +1,8 @@
+ghost use Rattle.std.specs.Prelude.{◌≡◌};
+ghost use Rattle.merge_round.specs.declared.fault.GatherFault.TheVariants as gather_fault;
+
+use geo_base::NoMemory;
+
 /// Why a round gave no outcomes.
 #[derive(Clone, Copy, Debug, PartialEq, Eq)]
 pub enum GatherFault {
@@ -5,4 +10,12 @@ pub enum GatherFault {
     Unjudged(u32),
     /// There was no memory.
     NoMemory,
+}
+
+impl From<NoMemory> for GatherFault {
+    ghost from_gives = { λ _ fault. fault ≡ gather_fault.NoMemory };
+
+    fn from(_e: NoMemory) -> GatherFault {
+        GatherFault::NoMemory
+    }
 }

@@ -3,12 +3,13 @@ ghost use Rattle.std.specs.Prelude.{◌≡◌, ◌<◌, ◌∷◌, ◌++◌, ℕ
 ghost use Rattle.std.specs.List.{slice_get};
 ghost use Rattle.geo_base.specs.declared.outcome.Outcome.{Outcome};
 ghost use Rattle.claim_rule.specs.Views.{views_joined};
-ghost use Rattle.claim_rule.specs.Seats.{AreApart};
+ghost use Rattle.claim_rule.specs.Seats.{IsOnce, HasAllShares, DrewApart};
 ghost use Rattle.merge_round.specs.Rounds.{rows_in, outcomes_of, numbered};
-ghost use Rattle.merge_round.specs.Seats.{round_of, work_of, IsWorkerOf};
-ghost use Rattle.merge_round.specs.Gathers.{IsJudgedBy, AreAllApart, HasGatherCause};
+ghost use Rattle.merge_round.specs.Seats.{round_of, work_of, verdicts_of, IsWorkerOf};
+ghost use Rattle.merge_round.specs.Gathers.{IsJudgedBy, DrewAllApart, AreAllSeats, HasLateJudge, HasGatherCause};
+ghost use Rattle.merge_round.specs.declared.fault.GatherFault.TheVariants as gather_fault;
 ghost use Rattle.merge_round.specs.inner.Entries.{IsNamed};
-ghost use Rattle.merge_round.specs.inner.Gathering.{all_verdicts, IsOutcome, HasVerdict, IsFirstLacking, TakesOver, IsWhole, IsGathered};
+ghost use Rattle.merge_round.specs.inner.Gathering.{all_verdicts, IsOutcome, HasVerdict, IsFirstLacking, TakesOver, IsWhole, IsSettled, IsGathered};
 
 use crate::fault::GatherFault;
 use crate::judged::Judged;
@@ -21,7 +22,8 @@ use write_set::Changes;
 
 impl<C: Changes + Drop> MergeRound<C> {
     /// Ends the round: the outcomes of all candidates by their numbers, or the least number of a candidate
-    /// that none of these seats judged. The seats are some or all of those of this round. After an error the
+    /// that none of these seats judged. The seats are some or all of those of this round. Where they are all,
+    /// and one of them was told `Spent` by `judge_next`, only want of memory is an error. After an error the
     /// round is gone, and can be made anew.
     pub fn gather(self, alloc: Global, seats: Vec<WorkerSeat>) -> Result<Judged, GatherFault>
         requires { All (IsWorkerOf (round_of self)) seats.items }
@@ -29,7 +31,9 @@ impl<C: Changes + Drop> MergeRound<C> {
         ensures outcomes { IfOk result (λ judged. judged.outcomes ≡ outcomes_of (round_of self)) }
         ensures whole { IfOk result (λ _. (number : ℕ) → number < length (round_of self).all → IsJudgedBy seats.items number) }
         ensures unjudged { IfErr result (HasGatherCause (round_of self) seats.items) }
-        ensures apart { AreAllApart seats.items }
+        ensures all_given { AreAllSeats (round_of self) seats.items → HasLateJudge seats.items → IfErr result (λ fault. fault ≡ gather_fault.NoMemory) }
+        ensures apart { DrewAllApart seats.items }
+        ensures once { All (λ seat. IsOnce (work_of seat)) seats.items }
     {
         let judged = self.decided(alloc, seats);
         drop(self);
@@ -42,18 +46,17 @@ impl<C: Changes + Drop> MergeRound<C> {
         ensures outcomes { IfOk result (λ judged. judged.outcomes ≡ outcomes_of (round_of self.now)) }
         ensures whole { IfOk result (λ _. (number : ℕ) → number < length (round_of self.now).all → IsJudgedBy seats.items number) }
         ensures unjudged { IfErr result (HasGatherCause (round_of self.now) seats.items) }
-        ensures apart { AreAllApart seats.items }
+        ensures all_given { AreAllSeats (round_of self.now) seats.items → HasLateJudge seats.items → IfErr result (λ fault. fault ≡ gather_fault.NoMemory) }
+        ensures apart { DrewAllApart seats.items }
+        ensures once { All (λ seat. IsOnce (work_of seat)) seats.items }
     {
         let verdicts = self.gathered(alloc, seats);
-        match first_unjudged(&verdicts, self.entries.len() as u32) {
+        match first_unjudged(&verdicts, self.count()) {
             Some(number) => Err(GatherFault::Unjudged(number)),
-            None => match self.outcomes(alloc, &verdicts) {
-                Ok(outcomes) => Ok(Judged {
-                    epoch: self.input.epoch,
-                    outcomes,
-                }),
-                Err(NoMemory) => Err(GatherFault::NoMemory),
-            },
+            None => Ok(Judged {
+                epoch: self.input.epoch,
+                outcomes: self.outcomes(alloc, &verdicts)?,
+            }),
         }
     }
 
@@ -62,26 +65,38 @@ impl<C: Changes + Drop> MergeRound<C> {
         requires { All (IsWorkerOf (round_of self.now)) seats.items }
         ensures { IsGathered (round_of self.now) seats.items result.items }
     {
-        let mut seats = seats;
-        match seats.pop() {
-            Some(seat) => self.together(seat, seats).verdicts,
+        match self.together(seats) {
+            Some(seat) => seat.verdicts,
             None => Vec::new(alloc),
         }
     }
 
-    /// All these seats as one.
-    fn together(&self, seat: WorkerSeat, others: Vec<WorkerSeat>) -> WorkerSeat
-        requires seat { IsWorkerOf (round_of self.now) seat }
-        requires others { All (IsWorkerOf (round_of self.now)) others.items }
-        ensures seat { IsWorkerOf (round_of self.now) result }
-        ensures whole { IsWhole (others.items ++ seat ∷ []) result }
+    /// All these seats as one, if there are any.
+    pub(crate) fn together(&self, seats: Vec<WorkerSeat>) -> Option<WorkerSeat>
+        requires { All (IsWorkerOf (round_of self.now)) seats.items }
+        ensures seat { IfSome result (IsWorkerOf (round_of self.now)) }
+        ensures whole { IfSome result (IsWhole seats.items) }
+        ensures settled { IfSome result (IsSettled (round_of self.now)) }
+        ensures none { IfNone result (seats.items ≡ []) }
     {
-        let mut seat = seat;
-        let mut others = others;
+        let mut others = seats;
+        let mut seat = others.pop()?;
         while let Some(other) = others.pop() {
             self.join(&mut seat, other);
         }
-        seat
+        self.settle(&mut seat);
+        Some(seat)
+    }
+
+    /// Shows what the seat has drawn.
+    pub(crate) fn settle(&self, seat: &mut WorkerSeat)
+        requires { IsWorkerOf (round_of self.now) seat.old }
+        ensures seat { IsWorkerOf (round_of self.now) seat.new }
+        ensures work { work_of seat.new ≡ work_of seat.old }
+        ensures verdicts { verdicts_of seat.new ≡ verdicts_of seat.old }
+        ensures settled { IsSettled (round_of self.now) seat.new }
+    {
+        self.table.settle(&mut seat.claims);
     }
 
     /// Takes in what another seat has done, and its verdicts.
@@ -90,7 +105,7 @@ impl<C: Changes + Drop> MergeRound<C> {
         requires other { IsWorkerOf (round_of self.now) other }
         ensures seat { IsWorkerOf (round_of self.now) seat.new }
         ensures work { work_of seat.new ≡ views_joined (work_of seat.old) (work_of other) }
-        ensures apart { AreApart (work_of seat.old) (work_of other) }
+        ensures apart { DrewApart (work_of seat.old) (work_of other) }
     {
         let WorkerSeat {
             claims,
@@ -105,7 +120,7 @@ impl<C: Changes + Drop> MergeRound<C> {
     }
 
     /// The outcomes that the verdicts are.
-    fn outcomes(
+    pub(crate) fn outcomes(
         &self,
         alloc: Global,
         verdicts: &[Option<Verdict>],
@@ -129,17 +144,15 @@ impl<C: Changes + Drop> MergeRound<C> {
     {
         match verdict {
             Verdict::Committed => Ok(Outcome::Committed),
-            Verdict::Changed(row, last) => Ok(Outcome::Changed(self.name(alloc, row)?, last)),
-            Verdict::Beaten(row, winner) => Ok(Outcome::Beaten(self.name(alloc, row)?, winner)),
+            Verdict::Changed(row, last) => Ok(Outcome::Changed(
+                self.row_at(row).copy(alloc)?,
+                last,
+            )),
+            Verdict::Beaten(row, winner) => Ok(Outcome::Beaten(
+                self.row_at(row).copy(alloc)?,
+                winner,
+            )),
         }
-    }
-
-    /// A copy of the name of the row with the number.
-    fn name(&self, alloc: Global, number: u32) -> Result<RowId, NoMemory>
-        requires { number < length (rows_in (round_of self.now).all) }
-        ensures { IfOk result (λ row. slice_get (rows_in (round_of self.now).all) number ≡ Some row) }
-    {
-        self.rows.get_index(number as usize).unwrap().copy(alloc)
     }
 }
 

@@ -5,8 +5,8 @@ ghost use Rattle.geo_base.specs.Claims.{word_of, IsClaim};
 ghost use Rattle.claim_rule.specs.Plan.{final_of};
 ghost use Rattle.claim_rule.specs.Seats.{view_of, rows_of, IsSeatOf};
 ghost use Rattle.merge_round.specs.Rounds.{rows_in, plan_of, verdict_on};
-ghost use Rattle.merge_round.specs.Seats.{round_of, IsWorkerOf, Judges};
-ghost use Rattle.merge_round.specs.inner.Entries.{first_above, last_at, IsEntry};
+ghost use Rattle.merge_round.specs.Seats.{round_of, work_of, IsWorkerOf, Judges};
+ghost use Rattle.merge_round.specs.inner.Entries.{first_above, last_at, IsEntry, IsJudging};
 
 use crate::claiming::word_of;
 use crate::numbering::Entry;
@@ -22,7 +22,7 @@ use write_set::Changes;
 pub enum Judgement {
     /// The verdict on the candidate with this number.
     Verdict(u32, Verdict),
-    /// Only for so many candidates all claims are made.
+    /// All claims are made for only so many candidates.
     NotYet(u32),
     /// There was no candidate left.
     Spent,
@@ -32,17 +32,20 @@ impl<C: Changes> MergeRound<C> {
     /// Looks whether all claims are made, and if they are draws one candidate and judges it.
     ///
     /// `NotYet` comes exactly where this call's look gave fewer candidates than there are, and says how many
-    /// it gave. `Spent` comes exactly where all claims are made and a draw by this seat, now or before, gave
-    /// a number that isn't below the number of candidates; a seat that was told so draws no more. A judgement
-    /// asks for the last change of each of the candidate's rows at most once, and reads each row's word at
-    /// most once. The call takes no memory, and has nothing by which it could wait.
+    /// it gave, never less than before; a seat that was once told something else isn't told so again, nor one
+    /// that has the shares of all workers and was told `Spent` by `claim_next`. `Spent` comes exactly where a
+    /// draw by this seat, now or before, gave a number that isn't below the number of candidates; a seat that
+    /// was told so draws no more. A judgement asks for the last change of each of the candidate's rows at most
+    /// once, and reads each row's word at most once. The call takes no memory, and has nothing by which it
+    /// could wait.
     pub fn judge_next(&self, seat: &mut WorkerSeat) -> Judgement
         requires seat { IsWorkerOf (round_of self.now) seat.old }
         ensures seat { IsWorkerOf (round_of self.now) seat.new }
         ensures judges { Judges (round_of self.now) seat.old seat.new result }
+        ensures shares { (work_of seat.new).shares ≡ (work_of seat.old).shares }
     {
         let done = self.table.done(&mut seat.claims);
-        if done < self.entries.len() as u32 {
+        if done < self.count() {
             return Judgement::NotYet(done);
         }
         if seat.judging_over {
@@ -63,15 +66,13 @@ impl<C: Changes> MergeRound<C> {
 
     /// The verdict on the candidate.
     fn judge(&self, seat: &mut ClaimSeat, number: u32) -> Verdict
-        requires seat { IsSeatOf (round_of self.now).table seat.old }
-        requires plan { (view_of seat.old).plan ≡ plan_of (round_of self.now) }
-        requires stable { (view_of seat.old).stable ≡ true }
+        requires seat { IsJudging (round_of self.now) seat.old }
         requires within { number < length (round_of self.now).all }
         ensures seat { IsSeatOf (round_of self.now).table seat.new }
         ensures view { view_of seat.new ≡ view_of seat.old }
         ensures verdict { Some result ≡ verdict_on (round_of self.now) number }
     {
-        let entry = &self.entries[number as usize];
+        let entry = self.entry(number);
         match self.first_changed(entry) {
             Some((row, last)) => Verdict::Changed(row, last),
             None => self.judge_unchanged(seat, number, entry),
@@ -80,9 +81,7 @@ impl<C: Changes> MergeRound<C> {
 
     /// The verdict on the candidate, none of whose rows was changed after its start.
     fn judge_unchanged(&self, seat: &mut ClaimSeat, _number: u32, entry: &Entry) -> Verdict
-        requires seat { IsSeatOf (round_of self.now).table seat.old }
-        requires plan { (view_of seat.old).plan ≡ plan_of (round_of self.now) }
-        requires stable { (view_of seat.old).stable ≡ true }
+        requires seat { IsJudging (round_of self.now) seat.old }
         requires entry { IsEntry (round_of self.now).all _number entry.now }
         requires unchanged { None ≡ first_above (last_at (round_of self.now).last (rows_in (round_of self.now).all)) entry.now.start entry.now.rows }
         ensures seat { IsSeatOf (round_of self.now).table seat.new }

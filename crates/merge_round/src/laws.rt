@@ -1,17 +1,35 @@
 //! The laws of rounds, each the contract of a function that does nothing.
-ghost use Rattle.std.specs.Prelude.{◌≡◌, ℕ, ◌+◌, List};
+ghost use Rattle.std.specs.Prelude.{◌≡◌, ℕ, ◌+◌, ◌^◌, ◌<◌, ◌≤◌, true, Some, List, Contains, length};
+ghost use Rattle.std.specs.List.{slice_get};
+ghost use Rattle.geo_base.specs.declared.limits.TheConstants.{MAX_REGIONS};
 ghost use Rattle.geo_base.specs.declared.row_id.RowId.{RowId};
-ghost use Rattle.write_set.specs.Journal.{Journal, Placed, epochs_of};
-ghost use Rattle.write_set.specs.Merge.{verdicts};
-ghost use Rattle.merge_round.specs.Rounds.{Round, AreClaims, FinalWordsDecide, IsRoundOf, outcomes_of};
+ghost use Rattle.write_set.specs.declared.batch.Batch.{Batch};
+ghost use Rattle.write_set.specs.Sets.{has_row};
+ghost use Rattle.write_set.specs.Journal.{Journal, Placed, AreBatches, batches_at, candidates_of, epochs_of};
+ghost use Rattle.write_set.specs.Merge.{last_change, verdicts};
+ghost use Rattle.merge_round.specs.Rounds.{Round, AreClaims, FinalWordsDecide, IsRoundOf, rows_in, number_in, plan_by, plan_of, outcomes_of};
 
-/// The greatest word of a row decides as comparing each candidate with each other does.
+/// The greatest word of a row decides as comparing each candidate with each other does: over candidates whose
+/// claims words can hold, as over those of an epoch's batches.
 pub fn final_words_decide()
-    ensures { (last : RowId → ℕ) (all : List Placed) → AreClaims all → FinalWordsDecide last all }
+    ensures claims { (last : RowId → ℕ) (all : List Placed) → AreClaims all → FinalWordsDecide last all }
+    ensures batches { (last : RowId → ℕ) (epoch : ℕ) (batches : List Batch) → AreBatches 0 epoch batches → length batches ≤ MAX_REGIONS → epoch < 2 ^ 32 →
+        FinalWordsDecide last (candidates_of batches) }
 {}
 
-/// A round of a journal's epoch gives the verdicts of that epoch.
+/// A round of a journal's epoch plans the claims that the journal's last changes leave to its candidates, and
+/// gives the verdicts of that epoch.
 pub fn rounds_judge_as_journals()
-    ensures { (journal : Journal) (place : ℕ) (round : Round) → IsRoundOf journal place round →
+    ensures plan { (journal : Journal) (place : ℕ) (round : Round) → IsRoundOf journal place round →
+        plan_of round ≡ plan_by (last_change (epochs_of journal place)) (candidates_of (batches_at journal place)) }
+    ensures verdicts { (journal : Journal) (place : ℕ) (round : Round) → IsRoundOf journal place round →
         outcomes_of round ≡ verdicts (epochs_of journal (place + 1)) }
+{}
+
+/// Rows and their numbers name one another: a row of a candidate stands at its number, each row has the number
+/// of the place at which it stands, and no other rows are numbered.
+pub fn numbers_name_rows()
+    ensures row { (all : List Placed) (c : Placed) (row : RowId) → Contains all c → has_row row c.set ≡ true → slice_get (rows_in all) (number_in (rows_in all) row) ≡ Some row }
+    ensures number { (all : List Placed) (number : ℕ) (row : RowId) → slice_get (rows_in all) number ≡ Some row → number_in (rows_in all) row ≡ number }
+    ensures known { (all : List Placed) (row : RowId) → Contains (rows_in all) row → (c : Placed) × Contains all c × (has_row row c.set ≡ true) }
 {}

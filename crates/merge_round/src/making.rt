@@ -1,21 +1,20 @@
 //! How a round is made, with its seats.
 ghost use Rattle.std.specs.Prelude.{◌≡◌, ◌^◌, ◌≤◌, ◌<◌, All, IfOk, length};
-ghost use Rattle.std.specs.List.{slice_get};
-ghost use Rattle.std.specs.Option.{option_copied};
 ghost use Rattle.geo_base.specs.declared.limits.TheConstants.{MAX_REGIONS};
 ghost use Rattle.write_set.specs.Journal.{AreBatches, candidates_of};
 ghost use Rattle.claim_rule.specs.declared.limits.TheConstants.{MAX_WORKERS};
 ghost use Rattle.claim_rule.specs.Plan.{IsPlan};
-ghost use Rattle.claim_rule.specs.Seats.{rows_of, IsUnusedSeatOf};
-ghost use Rattle.merge_round.specs.Rounds.{Round, rows_in, plan_by, plan_of};
+ghost use Rattle.claim_rule.specs.Seats.{rows_of, workers_of, IsNewSeatOf};
+ghost use Rattle.merge_round.specs.Rounds.{Round, plan_by, plan_of};
 ghost use Rattle.merge_round.specs.Seats.{round_of, IsNewWorkerOf};
+ghost use Rattle.merge_round.specs.Gathers.{AreAllSeats};
 
 use crate::input::RoundInput;
 use crate::numbering::{Numbering, number};
 use crate::round::MergeRound;
 use crate::seat::WorkerSeat;
 use claim_rule::{ClaimPlan, ClaimSeat, ClaimTable};
-use geo_base::{Epoch, NoMemory, RowId};
+use geo_base::{Epoch, NoMemory};
 use std::alloc::Global;
 use std::marker::Brand;
 use write_set::Changes;
@@ -39,6 +38,7 @@ impl<C: Changes + Drop> MergeRound<C> {
         ensures last { IfOk result (λ made. (round_of made.0).last ≡ C.last input.before) }
         ensures count { IfOk result (λ made. length made.1.items ≡ workers) }
         ensures seats { IfOk result (λ made. All (IsNewWorkerOf (round_of made.0)) made.1.items) }
+        ensures whole { IfOk result (λ made. AreAllSeats (round_of made.0) made.1.items) }
     {
         epoch_fits(input.epoch);
         let Numbering { rows, entries } = number(alloc, input.batches.items())?;
@@ -53,15 +53,6 @@ impl<C: Changes + Drop> MergeRound<C> {
             table,
         };
         Ok((round, seats))
-    }
-}
-
-impl<C: Changes> MergeRound<C> {
-    /// The row with the number, counted from 0 in the order in which the candidates first have them.
-    pub fn row(&self, number: u32) -> Option<&RowId>
-        ensures { option_copied result ≡ slice_get (rows_in (round_of self.now).all) number }
-    {
-        self.rows.get_index(number as usize)
     }
 }
 
@@ -82,8 +73,9 @@ fn table_for<C: Changes, P: ClaimPlan>(
     requires plan { IsPlan P.plan rows pieces }
     requires workers { (0 < workers) × (workers ≤ MAX_WORKERS) }
     ensures rows { IfOk result (λ made. rows_of made.0 ≡ rows) }
+    ensures workers { IfOk result (λ made. workers_of made.0 ≡ workers) }
     ensures count { IfOk result (λ made. length made.1.items ≡ workers) }
-    ensures seats { IfOk result (λ made. All (IsUnusedSeatOf made.0 P.plan) made.1.items) }
+    ensures seats { IfOk result (λ made. All (IsNewSeatOf made.0 P.plan) made.1.items) }
 {
     ClaimTable::new::<P>(alloc, rows, pieces, workers)
 }
@@ -95,7 +87,7 @@ fn seat_workers(
     candidates: u32,
 ) -> Result<Vec<WorkerSeat>, NoMemory>
     ensures count { IfOk result (λ seats. length seats.items ≡ length claims.items) }
-    ensures seats { (round : Round) → length round.all ≡ candidates → All (IsUnusedSeatOf round.table (plan_of round)) claims.items →
+    ensures seats { (round : Round) → length round.all ≡ candidates → All (IsNewSeatOf round.table (plan_of round)) claims.items →
         IfOk result (λ seats. All (IsNewWorkerOf round) seats.items) }
 {
     let mut claims = claims;
@@ -107,7 +99,7 @@ fn seat_workers(
 }
 
 fn seat_worker(alloc: Global, claims: ClaimSeat, candidates: u32) -> Result<WorkerSeat, NoMemory>
-    ensures { (round : Round) → length round.all ≡ candidates → IsUnusedSeatOf round.table (plan_of round) claims →
+    ensures { (round : Round) → length round.all ≡ candidates → IsNewSeatOf round.table (plan_of round) claims →
         IfOk result (IsNewWorkerOf round) }
 {
     Ok(WorkerSeat {

@@ -10,6 +10,8 @@ mod by_hand;
 #[cfg(test)]
 mod counting;
 #[cfg(test)]
+mod finishing;
+#[cfg(test)]
 mod outcomes;
 #[cfg(test)]
 mod threads;

@@ -1,5 +1,5 @@
 -- Laws: the greatest value of a function over a list, and the greatest word of a plan for a row.
-use Rattle.std.proofs.Common.{◌≡◌, ℕ, zero, suc, ◌<◌, ◌≤◌, max, Bool, cond, List, [], ◌∷◌, ◌++◌, length, refl, sym, ap, arith, eq-eqb, lt_of_not-le}
+use Rattle.std.proofs.Common.{◌≡◌, ℕ, zero, suc, ◌<◌, ◌≤◌, max, List, [], ◌∷◌, ◌++◌, length, refl, sym, ap, arith, lt_of_not-le}
 use Rattle.std.specs.Prelude.{Contains, slice_index_or}
 use mathlib.Core.Option.{some, some-ne-none, some-injective}
 use native.Mathlib.Decide.{dec_le}
@@ -59,11 +59,3 @@ pub piece_at : (plan : Pieces) (x : ℕ) (pairs : List (ℕ × ℕ)) → get_ele
 piece_at [] x pairs at = absurd (some-ne-none pairs (sym at))
 piece_at (p ∷ ps) zero pairs at = (some-injective p pairs at, omega arith)
 piece_at (p ∷ ps) (suc x) pairs at = let rest = piece_at ps x pairs at in (rest.0, let below = rest.1 in omega arith)
-
--- a word that the plan has for a row is at most the final one
-pub word_below : (plan : Pieces) (x row word : ℕ) → Contains (piece_of plan x) (row, word) → word ≤ final_of plan row
-word_below plan x row word has =
-    let on : word_on row (row, word) ≡ word = ap (λ (b : Bool). cond b word 0) (eq-eqb row row refl) in
-    let low = best_at (piece_of plan x) row (row, word) has in
-    let high = piece_below plan x row in
-    omega arith

@@ -1,5 +1,5 @@
 -- Inner: what a round's fields hold of its candidates, and what a seat finds as it works on one.
-use Rattle.std.specs.Prelude.{◌≡◌, ℕ, ◌≤◌, nat_lt, Option, None, Some, unwrap_or, if◌then◌else◌, List, [], ◌∷◌, ◌++◌, map, length, Contains}
+use Rattle.std.specs.Prelude.{◌≡◌, ℕ, ◌<◌, ◌≤◌, true, nat_lt, Option, None, Some, unwrap_or, if◌then◌else◌, List, [], ◌∷◌, ◌++◌, map, length, Contains}
 use Rattle.std.specs.List.{slice_get, flat_map}
 use Rattle.std.specs.Option.{option_map}
 use Rattle.std.specs.Map.{keys_of}
@@ -12,11 +12,13 @@ use Rattle.geo_base.specs.Order.{row_eq}
 use Rattle.write_set.specs.Journal.{Placed}
 use Rattle.claim_rule.specs.declared.table.ClaimTable.{ClaimTable}
 use Rattle.claim_rule.specs.declared.view.ClaimView.{ClaimView}
-use Rattle.claim_rule.specs.Seats.{rows_of}
+use Rattle.claim_rule.specs.declared.seat.ClaimSeat.{ClaimSeat}
+use Rattle.claim_rule.specs.Views.{times}
+use Rattle.claim_rule.specs.Seats.{view_of, rows_of, IsSeatOf}
 use Rattle.merge_round.specs.declared.limits.TheConstants.{MAX_ENTRIES}
 use Rattle.merge_round.specs.declared.numbering.Entry.{Entry}
 use Rattle.merge_round.specs.declared.numbering.Numbering.{Numbering}
-use Rattle.merge_round.specs.Rounds.{rows_in, number_in, AreClaims}
+use Rattle.merge_round.specs.Rounds.{Round, rows_in, number_in, plan_of, AreClaims}
 
 -- the candidate as its seats work on it, where its rows are numbered among these
 abbrev pub entry_of : List RowId → Placed → Entry
@@ -69,3 +71,16 @@ pub record IsEntry (all : List Placed) (number : ℕ) (e : Entry) : Type 0 where
   pub at : slice_get all number ≡ Some candidate
   pub among : Contains all candidate
   pub is : e ≡ entry_of (rows_in all) candidate
+
+-- the seat has drawn the candidate with the number, and makes its claims
+pub record IsClaimingFor (round : Round) (seat : ClaimSeat) (number : ℕ) : Type 0 where
+  pub seated : IsSeatOf round.table seat
+  pub planned : (view_of seat).plan ≡ plan_of round
+  pub within : number < length round.all
+  pub drawn : 0 < times number (view_of seat).pending
+
+-- the seat has seen all claims made, and judges
+pub record IsJudging (round : Round) (seat : ClaimSeat) : Type 0 where
+  pub seated : IsSeatOf round.table seat
+  pub planned : (view_of seat).plan ≡ plan_of round
+  pub stable : (view_of seat).stable ≡ true

@@ -4,11 +4,12 @@ use Rattle.std.specs.Option.{option_or}
 use Rattle.geo_base.specs.declared.row_id.RowId.{RowId}
 use Rattle.geo_base.specs.declared.outcome.Outcome.{Outcome}
 use Rattle.claim_rule.specs.Views.{times}
+use Rattle.claim_rule.specs.Seats.{IsOnce, HasAllShares, HasAllNumbers}
 use Rattle.merge_round.specs.declared.verdict.Verdict.{Verdict}
 use Rattle.merge_round.specs.declared.seat.WorkerSeat.{WorkerSeat}
 use Rattle.merge_round.specs.Rounds.{Round, rows_in, numbered, outcome_in, verdict_on}
 use Rattle.merge_round.specs.Seats.{work_of}
-use Rattle.merge_round.specs.Gathers.{AreAllApart, IsJudgedBy}
+use Rattle.merge_round.specs.Gathers.{DrewAllApart, IsJudgedBy, AreAllSeats, HasLateJudge}
 use Rattle.merge_round.specs.inner.Entries.{IsNamed}
 
 -- a verdict on each candidate of the round
@@ -38,14 +39,23 @@ pub record TakesOver (old others new : List (Option Verdict)) : Type 0 where
 pub record IsWhole (seats : List WorkerSeat) (whole : WorkerSeat) : Type 0 where
   pub claimed : (x : ℕ) → times x (work_of whole).claiming.numbers ≡ sum_by (λ seat. times x (work_of seat).claiming.numbers) seats
   pub judged : (x : ℕ) → times x (work_of whole).judging.numbers ≡ sum_by (λ seat. times x (work_of seat).judging.numbers) seats
-  pub apart : AreAllApart seats
+  pub shares : (work_of whole).shares ≡ sum_by (λ seat. (work_of seat).shares) seats
+  pub late : length (work_of whole).judging.late ≡ sum_by (λ seat. length (work_of seat).judging.late) seats
+  pub apart : DrewAllApart seats
+
+-- no number stands twice in what the seat drew, and where it has the shares of all workers each stands there, if a draw came too late
+pub record IsSettled (round : Round) (seat : WorkerSeat) : Type 0 where
+  pub once : IsOnce (work_of seat)
+  pub all : HasAllShares round.table (work_of seat) → HasAllNumbers (work_of seat)
 
 -- these are the verdicts that the seats found, of which no two drew one number
 pub record IsGathered (round : Round) (seats : List WorkerSeat) (verdicts : List (Option Verdict)) : Type 0 where
-  pub apart : AreAllApart seats
+  pub apart : DrewAllApart seats
   pub long : length verdicts ≤ length round.all
   pub judged : (number : ℕ) → HasVerdict verdicts number → IsJudgedBy seats number × (slice_index_or verdicts number None ≡ verdict_on round number)
   pub lacking : (number : ℕ) → number < length round.all → slice_index_or verdicts number None ≡ None → All (λ seat. times number (work_of seat).judging.numbers ≡ 0) seats
+  pub once : All (λ seat. IsOnce (work_of seat)) seats
+  pub whole : AreAllSeats round seats → HasLateJudge seats → (number : ℕ) → number < length round.all → IsJudgedBy seats number
 
 -- each place before this one without a verdict has the others', and the others are as they were
 pub record TakesOverTo (upto : ℕ) (old others new : List (Option Verdict)) : Type 0 where

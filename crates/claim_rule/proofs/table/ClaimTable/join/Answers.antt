@@ -1,8 +1,10 @@
-use Rattle.std.proofs.Common.{◌≡◌, false, ap, ◌∙◌, arith}
+use Rattle.std.proofs.Common.{◌≡◌, subst, arith}
+use Rattle.std.specs.Prelude.{All}
 use Rattle.claim_rule.specs.declared.view.ClaimView.{ClaimView}
 use Rattle.claim_rule.specs.Views.{views_joined}
-use Rattle.claim_rule.specs.laws.Joins.{joined_apart, joined_plan}
-use Rattle.claim_rule.proofs.Stepping.{joins, settles}
+use Rattle.claim_rule.specs.Seats.{IsOnce}
+use Rattle.claim_rule.proofs.Joins.{joined_apart, joined_plan}
+use Rattle.claim_rule.proofs.Stepping.{joins}
 use Rattle.claim_rule.proofs.table.ClaimTable.join.Goals as goal
 
 pub join_seat-requires : goal.join_seat-requires
@@ -12,26 +14,13 @@ join_seat-requires c =
     let o = c.args.other.seat in
     (c.requires.seat.same, c.requires.other.same, c.args.other.bare, omega arith, joins t.key s.id s.me.0 o.id o.me.0 c.requires.seat.opened c.requires.seat.some c.requires.other.some)
 
-pub load-requires : goal.load-requires
-load-requires c =
-    let t = c.args.self.now.table.shared in
-    let s = c.join_seat.new.seat in
-    let v = c.args.seat.now.seat.me.0 in
-    let w = c.args.other.seat.me.0 in
-    let now : s.me.0 ≡ views_joined v w = cc in
-    let opened : s.me.0.closed ≡ false = ap (λ (u : ClaimView). u.closed) now ∙ c.requires.seat.opened in
-    let shares = ap (λ (u : ClaimView). u.shares) now in
-    let some_share = c.requires.seat.some in
-    let same : s.table_id ≡ t.table_id = cc in
-    (same, omega arith, settles t.key t.table_id.slots s.id s.me opened (omega arith))
-
 pub returns-clause-same_plan : goal.returns-clause-same_plan
 returns-clause-same_plan c =
     let s = c.join_seat.new.seat in
     let v = c.args.seat.now.seat.me.0 in
     let w = c.args.other.seat.me.0 in
     let now : s.me.0 ≡ views_joined v w = cc in
-    joined_plan v w s.me.0 now c.load.ensures.2.2
+    joined_plan v w s.me.0 now (subst (λ (u : ClaimView). All (λ p. p ≡ u.plan) u.joined) c.settle.ensures.view c.settle.ensures.joined)
 
 pub returns-clause-apart : goal.returns-clause-apart
 returns-clause-apart c =
@@ -39,4 +28,4 @@ returns-clause-apart c =
     let v = c.args.seat.now.seat.me.0 in
     let w = c.args.other.seat.me.0 in
     let now : s.me.0 ≡ views_joined v w = cc in
-    joined_apart v w s.me.0 now c.load.ensures.2.1
+    joined_apart v w s.me.0 now (subst IsOnce c.settle.ensures.view c.settle.ensures.once)

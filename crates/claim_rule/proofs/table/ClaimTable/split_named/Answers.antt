@@ -7,4 +7,4 @@ split_seat-requires g c =
     let t = c.args.self.now.table.shared in
     let s = c.args.seat.now.seat in
     let gives = c.requires.shares in
-    (c.requires.seat.same, omega arith, splits t.key s.id s.me.0 g.Q.Number.number c.requires.seat.opened gives.some gives.less gives.claiming gives.judging)
+    (c.requires.seat.same, omega arith, splits t.key s.id s.me.0 g.Q.StepNumber.number c.requires.seat.opened gives.some gives.less gives.claiming gives.judging)

@@ -6,4 +6,4 @@ use Rattle.merge_round.proofs.round.MergeRound.claim.Goals as goal
 
 pub finish-requires-clause-claimed : goal.finish-requires-clause-claimed
 finish-requires-clause-claimed g c =
-    claimed_all (view_of c.args.seat.now) (view_of c.claim_all.new.seat) (plan_of (round_of c.args.self.now)) c.args.number c.claim_all.ensures.view c.requires.plan c.requires.drawn
+    claimed_all (view_of c.args.seat.now) (view_of c.claim_all.new.seat) (plan_of (round_of c.args.self.now)) c.args.number c.claim_all.ensures.view c.requires.planned c.requires.drawn

@@ -24,11 +24,11 @@ winner_of-requires g c =
 pub returns-in-Some-clause-verdict : goal.returns-in-Some-clause-verdict
 returns-in-Some-clause-verdict g c =
     let m = c.args.self.now in
-    entry_beaten (round_of m) m.held.claims c.args._number c.args.entry.now c.requires.entry (view_of c.args.seat.now).plan c.word_of.result c.requires.plan c.word_of.ensures c.requires.unchanged
+    entry_beaten (round_of m) m.held.claims c.args._number c.args.entry.now c.requires.entry (view_of c.args.seat.now).plan c.word_of.result c.requires.seat.planned c.word_of.ensures c.requires.unchanged
     c.in-Some.row c.in-Some.word c.winner_of.result (c.in-Some.ensures.first ∙ ap (λ rows. first_above (final_of (view_of c.args.seat.now).plan) c.word_of.result rows) c.items.ensures) c.winner_of.ensures
 
 pub returns-in-None-clause-verdict : goal.returns-in-None-clause-verdict
 returns-in-None-clause-verdict g c =
     let m = c.args.self.now in
-    entry_committed (round_of m) m.held.claims c.args._number c.args.entry.now c.requires.entry (view_of c.args.seat.now).plan c.word_of.result c.requires.plan c.word_of.ensures c.requires.unchanged
+    entry_committed (round_of m) m.held.claims c.args._number c.args.entry.now c.requires.entry (view_of c.args.seat.now).plan c.word_of.result c.requires.seat.planned c.word_of.ensures c.requires.unchanged
     (c.in-None.ensures.first ∙ ap (λ rows. first_above (final_of (view_of c.args.seat.now).plan) c.word_of.result rows) c.items.ensures)

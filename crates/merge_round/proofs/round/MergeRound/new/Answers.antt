@@ -2,9 +2,10 @@ use Rattle.std.proofs.Common.{◌≡◌, ℕ, length, map, ap, sym, subst, ◌�
 use Rattle.std.proofs.lemmas.List.{length-map}
 use Rattle.write_set.specs.Journal.{candidates_of}
 use Rattle.claim_rule.specs.Plan.{IsPlan}
-use Rattle.merge_round.specs.Rounds.{plan_by, rows_in}
+use Rattle.merge_round.specs.Rounds.{Round, plan_by, rows_in}
 use Rattle.merge_round.specs.inner.Entries.{entry_of}
 use Rattle.merge_round.proofs.Lawful.{few_items, few_candidates, batch_claims, is_plan}
+use Rattle.merge_round.proofs.Whole.{new_seats}
 use Rattle.merge_round.proofs.round.MergeRound.new.Goals as goal
 
 pub number-requires-clause-lawful : goal.number-requires-clause-lawful
@@ -46,3 +47,12 @@ returns-clause-seats g c =
     ap length c.in_ok-rows.ensures.entries ∙ length-map _ (entry_of c.in_ok-rows.field-0.rows.keys) ∙ ap (λ bs. length (candidates_of bs)) c.items.ensures in
     let counted : c.len-count.result ≡ length (candidates_of c.args.input.batches) = (let count = c.len-count.ensures in omega arith) in
     c.in_ok-seats.ensures.seats _ (sym counted) c.in_ok-table.ensures.seats
+
+pub returns-clause-whole : goal.returns-clause-whole
+returns-clause-whole g c =
+    let long : length c.in_ok-rows.field-0.entries.items ≡ length (candidates_of c.args.input.batches) =
+    ap length c.in_ok-rows.ensures.entries ∙ length-map _ (entry_of c.in_ok-rows.field-0.rows.keys) ∙ ap (λ bs. length (candidates_of bs)) c.items.ensures in
+    let counted : c.len-count.result ≡ length (candidates_of c.args.input.batches) = (let count = c.len-count.ensures in omega arith) in
+    let round : Round = record { epoch = c.args.input.epoch; all = candidates_of c.args.input.batches; last = g.C.Changes.last c.args.input.before; table = c.in_ok-table.table } in
+    new_seats round c.in_ok-seats.seats.items (c.in_ok-seats.ensures.seats round (sym counted) c.in_ok-table.ensures.seats)
+    (c.in_ok-seats.ensures.count ∙ c.in_ok-table.ensures.count ∙ sym c.in_ok-table.ensures.workers)
