@@ -13,7 +13,7 @@ use Rattle.sql_expr.specs.declared.value_type.ValueType.{ValueType}
 use Rattle.sql_expr.specs.declared.value_type.ValueType.TheVariants as type
 use Rattle.sql_expr.specs.Types.{takes, two_operands, of_both, type_of}
 use Rattle.sql_bind.specs.Conditions.{split, conjuncts}
-use Rattle.sql_bind.specs.Sound.{IsTaken, IsTest}
+use Rattle.sql_bind.specs.Sound.{IsTypedFor, IsTest}
 use Rattle.sql_bind.proofs.Levels.{type_and}
 use Rattle.sql_bind.proofs.Lists.{All-one}
 
@@ -73,7 +73,7 @@ after_other old new e none is = rw (of_other e none) is
 
 module _ (columns : List ValueType) where
   abbrev IsCondition : Expr → Type 0
-  IsCondition = IsTaken type.Truth columns
+  IsCondition = IsTypedFor type.Truth columns
 
   -- the operands of an operator that has a type have types that its rule takes
   both_have : (rule : ValueType → ValueType → Option ValueType) (a b : Option ValueType) (t : ValueType) → of_both rule a b ≡ Some t →

@@ -24,7 +24,7 @@ use Rattle.sql_expr.specs.Types.{literal_type, one_operand, two_operands, compar
 use Rattle.sql_bind.specs.declared.scope.Scope.{Scope}
 use Rattle.sql_bind.specs.Expressions.{TypedOrFault, literal, column, negated, denied, null_test, joined, level, expression_of}
 use Rattle.sql_bind.specs.Names.{is_allowed}
-use Rattle.sql_bind.specs.Sound.{level_within, is_within}
+use Rattle.sql_bind.specs.Sound.{level_of_columns, is_of_columns}
 
 -- ---- bound forms
 
@@ -95,38 +95,38 @@ module _ (columns : List ValueType) where
 -- ---- columns of a list
 
 module _ (group : List ℕ) where
-  pub within_literal : (c : Cell) → is_within group (expr.Lit c) ≡ true
-  unfolding is_within
-  within_literal c = ap (is_within group) (sym (rolls-Lit c)) ∙ fold-roll-Expr Bool (level_within group) (Expr-F.Lit c)
+  pub within_literal : (c : Cell) → is_of_columns group (expr.Lit c) ≡ true
+  unfolding is_of_columns
+  within_literal c = ap (is_of_columns group) (sym (rolls-Lit c)) ∙ fold-roll-Expr Bool (level_of_columns group) (Expr-F.Lit c)
 
-  pub within_column : (place : ℕ) → is_within group (expr.Col place) ≡ is_allowed (Some group) place
-  unfolding is_within
-  within_column place = ap (is_within group) (sym (rolls-Col place)) ∙ fold-roll-Expr Bool (level_within group) (Expr-F.Col place)
+  pub within_column : (place : ℕ) → is_of_columns group (expr.Col place) ≡ is_allowed (Some group) place
+  unfolding is_of_columns
+  within_column place = ap (is_of_columns group) (sym (rolls-Col place)) ∙ fold-roll-Expr Bool (level_of_columns group) (Expr-F.Col place)
 
-  pub within_neg : (a : Expr) → is_within group (expr.Neg a) ≡ is_within group a
-  unfolding is_within
-  within_neg a = ap (is_within group) (sym (rolls-Neg a)) ∙ fold-roll-Expr Bool (level_within group) (Expr-F.Neg a)
+  pub within_neg : (a : Expr) → is_of_columns group (expr.Neg a) ≡ is_of_columns group a
+  unfolding is_of_columns
+  within_neg a = ap (is_of_columns group) (sym (rolls-Neg a)) ∙ fold-roll-Expr Bool (level_of_columns group) (Expr-F.Neg a)
 
-  pub within_not : (a : Expr) → is_within group (expr.Not a) ≡ is_within group a
-  unfolding is_within
-  within_not a = ap (is_within group) (sym (rolls-Not a)) ∙ fold-roll-Expr Bool (level_within group) (Expr-F.Not a)
+  pub within_not : (a : Expr) → is_of_columns group (expr.Not a) ≡ is_of_columns group a
+  unfolding is_of_columns
+  within_not a = ap (is_of_columns group) (sym (rolls-Not a)) ∙ fold-roll-Expr Bool (level_of_columns group) (Expr-F.Not a)
 
-  pub within_arithmetic : (o : Op) (a b : Expr) → is_within group (expr.Arith o a b) ≡ (is_within group a && is_within group b)
-  unfolding is_within
-  within_arithmetic o a b = ap (is_within group) (sym (rolls-Arith o a b)) ∙ fold-roll-Expr Bool (level_within group) (Expr-F.Arith o a b)
+  pub within_arithmetic : (o : Op) (a b : Expr) → is_of_columns group (expr.Arith o a b) ≡ (is_of_columns group a && is_of_columns group b)
+  unfolding is_of_columns
+  within_arithmetic o a b = ap (is_of_columns group) (sym (rolls-Arith o a b)) ∙ fold-roll-Expr Bool (level_of_columns group) (Expr-F.Arith o a b)
 
-  pub within_comparison : (t : Test) (a b : Expr) → is_within group (expr.Cmp t a b) ≡ (is_within group a && is_within group b)
-  unfolding is_within
-  within_comparison t a b = ap (is_within group) (sym (rolls-Cmp t a b)) ∙ fold-roll-Expr Bool (level_within group) (Expr-F.Cmp t a b)
+  pub within_comparison : (t : Test) (a b : Expr) → is_of_columns group (expr.Cmp t a b) ≡ (is_of_columns group a && is_of_columns group b)
+  unfolding is_of_columns
+  within_comparison t a b = ap (is_of_columns group) (sym (rolls-Cmp t a b)) ∙ fold-roll-Expr Bool (level_of_columns group) (Expr-F.Cmp t a b)
 
-  pub within_and : (a b : Expr) → is_within group (expr.And a b) ≡ (is_within group a && is_within group b)
-  unfolding is_within
-  within_and a b = ap (is_within group) (sym (rolls-And a b)) ∙ fold-roll-Expr Bool (level_within group) (Expr-F.And a b)
+  pub within_and : (a b : Expr) → is_of_columns group (expr.And a b) ≡ (is_of_columns group a && is_of_columns group b)
+  unfolding is_of_columns
+  within_and a b = ap (is_of_columns group) (sym (rolls-And a b)) ∙ fold-roll-Expr Bool (level_of_columns group) (Expr-F.And a b)
 
-  pub within_or : (a b : Expr) → is_within group (expr.Or a b) ≡ (is_within group a && is_within group b)
-  unfolding is_within
-  within_or a b = ap (is_within group) (sym (rolls-Or a b)) ∙ fold-roll-Expr Bool (level_within group) (Expr-F.Or a b)
+  pub within_or : (a b : Expr) → is_of_columns group (expr.Or a b) ≡ (is_of_columns group a && is_of_columns group b)
+  unfolding is_of_columns
+  within_or a b = ap (is_of_columns group) (sym (rolls-Or a b)) ∙ fold-roll-Expr Bool (level_of_columns group) (Expr-F.Or a b)
 
-  pub within_null_test : (a : Expr) (is_not : Bool) → is_within group (expr.IsNull a is_not) ≡ is_within group a
-  unfolding is_within
-  within_null_test a is_not = ap (is_within group) (sym (rolls-IsNull a is_not)) ∙ fold-roll-Expr Bool (level_within group) (Expr-F.IsNull a is_not)
+  pub within_null_test : (a : Expr) (is_not : Bool) → is_of_columns group (expr.IsNull a is_not) ≡ is_of_columns group a
+  unfolding is_of_columns
+  within_null_test a is_not = ap (is_of_columns group) (sym (rolls-IsNull a is_not)) ∙ fold-roll-Expr Bool (level_of_columns group) (Expr-F.IsNull a is_not)

@@ -8,4 +8,5 @@ pub mod Rows
 pub mod Sound
 pub mod Tables
 pub mod Typing
+pub mod Values
 pub mod Writes

@@ -1,9 +1,14 @@
 -- What steps keep that are done for each item of a list.
-use Rattle.std.proofs.Common.{◌≡◌, ℕ, zero, suc, ◌+◌, ◌<◌, ◌⊎◌, inl, inr, Option, Some, List, [], ◌∷◌, ◌++◌, length, Result, Ok, refl, ap, subst, arith, length-append}
+use Rattle.std.proofs.Common.{◌≡◌, ℕ, zero, suc, ◌+◌, ◌<◌, ◌⊎◌, inl, inr, Bool, true, false, Option, Some, List, [], ◌∷◌, ◌++◌, length, get_or, Result, Ok, refl, ap, subst, arith, length-append}
 use Rattle.std.specs.Prelude.{slice_get}
-use Rattle.std.specs.List.{All}
+use Rattle.std.specs.List.{All, list_any}
+use Rattle.std.proofs.lemmas.Bool.{both_ways, false_from_ne_true, cases_lt}
+use Rattle.std.proofs.lemmas.List.{get_or_append_left}
+use Rattle.std.proofs.lemmas.List.Folds.{list_any_at}
+use Rattle.std.proofs.Math.Seq.{get_or-append_seam}
 use Rattle.std.proofs.lemmas.List.Elements.{All-nil, All-cons, All-append}
 use Rattle.geo_base.specs.laws.Results.{ok_is, bind_ok}
+use Rattle.geo_schema.specs.Repeats.{AreApart}
 use Rattle.sql_bind.specs.Steps.{each_behind}
 
 -- one item
@@ -33,7 +38,7 @@ module _ {A B E : Type 0} (step : List B → A → Result B E) where
       let one = length-append done (q.0 ∷ []) in
       omega arith
 
-some_is : {A : Type 0} (a b : A) → (let o : Option A = Some a in o ≡ Some b) → a ≡ b
+pub some_is : {A : Type 0} (a b : A) → (let o : Option A = Some a in o ≡ Some b) → a ≡ b
 some_is a b e = cc
 
 -- what is at a place of a list with one more item
@@ -42,3 +47,26 @@ at_end [] y x zero h = inr (refl, some_is y x h)
 at_end [] y x (suc k) h = absurd cc
 at_end (z ∷ xs) y x zero h = inl (omega arith, h)
 at_end (z ∷ xs) y x (suc k) h = elim (at_end xs y x k h) [ inl p ↦ inl (omega (arith, p.0), p.1) | inr p ↦ inr (ap suc p.0, p.1) ]
+
+-- one more item, which none before it is like
+module _ {A : Type 0} (same : A → A → Bool) where
+  unlike : (items : List A) (y : A) (i : ℕ) (d : A) → list_any (λ e. same e y) items ≡ false → i < length items → same (get_or items i d) y ≡ false
+  unlike items y i d none within = false_from_ne_true (same (get_or items i d) y) (λ t. both_ways (list_any (λ e. same e y) items) none (list_any_at (λ e. same e y) items i d within t))
+
+  pub apart_more : (items : List A) (y : A) → AreApart same items → list_any (λ e. same e y) items ≡ false → AreApart same (items ++ y ∷ [])
+  apart_more items y apart none i j d before within =
+      let one = length-append items (y ∷ []) in
+      let early : i < length items = omega arith in
+      let left : get_or (items ++ y ∷ []) i d ≡ get_or items i d = get_or_append_left items (y ∷ []) d i early in
+      elim (cases_lt j (length items)) [
+        | inl inside ↦
+            let right : get_or (items ++ y ∷ []) j d ≡ get_or items j d = get_or_append_left items (y ∷ []) d j inside in
+            rw (left, right) (apart i j d before inside)
+        | inr upto ↦
+            let last : j ≡ length items = omega arith in
+            let right : get_or (items ++ y ∷ []) j d ≡ y = rw last (get_or-append_seam items y [] d) in
+            rw (left, right) (unlike items y i d none early)
+      ]
+
+pub apart_none : {A : Type 0} (same : A → A → Bool) → AreApart same []
+apart_none same i j d before within = absurd (omega arith)

@@ -10,6 +10,8 @@ use Rattle.std.proofs.lemmas.Option.{slice_get_within, slice_get-get_or}
 use Rattle.geo_base.specs.declared.limits.TheConstants.{MAX_LINE_CELLS}
 use Rattle.geo_base.specs.laws.Results.{ok_is, bind_ok}
 use Rattle.geo_schema.specs.declared.column.ColumnDef.{ColumnDef}
+use Rattle.geo_schema.specs.Repeats.{AreApart}
+use Rattle.geo_schema.specs.Rows.{is_in}
 use Rattle.geo_schema.specs.Schemas.{Tables}
 use Rattle.sql_ast.specs.declared.ast.Ast.{Ast}
 use Rattle.sql_ast.specs.declared.ast.ColRef.{ColRef}
@@ -37,16 +39,16 @@ use Rattle.sql_bind.specs.declared.names.Found.{Found}
 use Rattle.sql_bind.specs.declared.scope.Known.{Known}
 use Rattle.sql_bind.specs.declared.scope.Scope.{Scope}
 use Rattle.sql_bind.specs.Conditions.{conjuncts, condition_of, filter_of}
-use Rattle.sql_bind.specs.Expressions.{any_of, taken_by}
+use Rattle.sql_bind.specs.Expressions.{of_any_type, taken_by}
 use Rattle.sql_bind.specs.Items.{is_aggregate, has_aggregate, item_of, next_star, star_of, listed, items_of}
-use Rattle.sql_bind.specs.Names.{known_columns, column_types, is_allowed, column_of}
+use Rattle.sql_bind.specs.Names.{known_columns, column_types, is_allowed, column_meant}
 use Rattle.sql_bind.specs.Orders.{has_alias, written_items, only_item, item_meant, item_or_column, sort_of, order_of}
 use Rattle.sql_bind.specs.Selects.{from_of, on_of, once, group_behind, is_grouped, only_group, plain_of, tests_of, numbers_in, numbers_of, select_of, lock_of}
-use Rattle.sql_bind.specs.Sound.{types_of, HasType, IsTest, IsItem, is_plain, is_within, IsItemWithin, IsSortOf, IsSortWithin, IsSoundSelect, IsSoundLock}
+use Rattle.sql_bind.specs.Sound.{types_of, HasType, IsTest, IsItem, is_plain, is_of_columns, IsItemWithin, IsSortOf, IsSortWithin, IsSoundSelect, IsSoundLock}
 use Rattle.sql_bind.specs.Steps.{◌>>◌, refused_if, refused_unless, each_behind}
 use Rattle.sql_bind.proofs.Conjuncts.{all_tests}
 use Rattle.sql_bind.proofs.Levels.{type_column, within_column}
-use Rattle.sql_bind.proofs.Lists.{All-one, all_made, count}
+use Rattle.sql_bind.proofs.Lists.{All-one, all_made, count, apart_more, apart_none}
 use Rattle.sql_bind.proofs.Tables.{IsFrom, is_from, numbers_shown, same_types, number_count}
 use Rattle.sql_bind.proofs.Typing.{scope_types, column_allowed, any_fits, taken_fits, types_count, IsWithin, IsBoundTo}
 
@@ -94,7 +96,7 @@ module _ (tables : Tables) (scope : Scope) where
   abbrev pub IsColumnNo : ℕ → Type 0
   IsColumnNo place = place < length (scope_types tables scope)
 
-  pub column_within : (column : ColRef) (found : Found) → column_of tables scope column ≡ Ok found → IsColumnNo found.place
+  pub column_within : (column : ColRef) (found : Found) → column_meant tables scope column ≡ Ok found → IsColumnNo found.place
   column_within column found h = slice_get_within (scope_types tables scope) found.place found.of (column_allowed tables scope column found h).column
 
   added : (group : List ℕ) (place : ℕ) (b : Bool) → All IsColumnNo group → IsColumnNo place → All IsColumnNo (if b then group else group ++ place ∷ [])
@@ -104,8 +106,18 @@ module _ (tables : Tables) (scope : Scope) where
   pub group_within : (group : List ℕ) (columns : List ColRef) (out : List ℕ) → All IsColumnNo group → group_behind tables scope group columns ≡ Ok out → All IsColumnNo out
   group_within group [] out all h = subst (All IsColumnNo) (ok_is group out h) all
   group_within group (column ∷ columns) out all h =
-      let p = bind_ok (column_of tables scope column) (λ found. group_behind tables scope (once group found.place) columns) out h in
-      group_within (once group p.0.place) columns out (added group p.0.place (list_any (λ q. nat_eq q p.0.place) group) all (column_within column p.0 p.1)) p.2
+      let p = bind_ok (column_meant tables scope column) (λ found. group_behind tables scope (once group found.place) columns) out h in
+      group_within (once group p.0.place) columns out (added group p.0.place (is_in group p.0.place) all (column_within column p.0 p.1)) p.2
+
+  once_apart : (group : List ℕ) (place : ℕ) (b : Bool) → is_in group place ≡ b → AreApart nat_eq group → AreApart nat_eq (if b then group else group ++ place ∷ [])
+  once_apart group place true is apart = apart
+  once_apart group place false is apart = apart_more nat_eq group place apart is
+
+  pub group_apart : (group : List ℕ) (columns : List ColRef) (out : List ℕ) → AreApart nat_eq group → group_behind tables scope group columns ≡ Ok out → AreApart nat_eq out
+  group_apart group [] out apart h = subst (AreApart nat_eq) (ok_is group out h) apart
+  group_apart group (column ∷ columns) out apart h =
+      let p = bind_ok (column_meant tables scope column) (λ found. group_behind tables scope (once group found.place) columns) out h in
+      group_apart (once group p.0.place) columns out (once_apart group p.0.place (is_in group p.0.place) refl apart) p.2
 
 -- ---- items
 
@@ -122,11 +134,11 @@ module _ (tables : Tables) (scope : Scope) (grouped : Bool) (group : List ℕ) w
     pub within : grouped ≡ true → IsItemWithin group i
     pub single : grouped ≡ false → is_plain i ≡ true
 
-  plain_good : (e : Expr) → HasType columns e → (grouped ≡ true → is_within group e ≡ true) → IsGood (item.Plain e)
+  plain_good : (e : Expr) → HasType columns e → (grouped ≡ true → is_of_columns group e ≡ true) → IsGood (item.Plain e)
   plain_good e t w = record { types = t; within = w; single = λ _. refl }
 
   -- where the query is grouped, the columns that may stand there are those of GROUP BY
-  only : (b : Bool) (e : Expr) → IsWithin (only_group b group) e → b ≡ true → is_within group e ≡ true
+  only : (b : Bool) (e : Expr) → IsWithin (only_group b group) e → b ≡ true → is_of_columns group e ≡ true
   only true e w h = w
   only false e w h = absurd cc
 
@@ -139,20 +151,20 @@ module _ (tables : Tables) (scope : Scope) (grouped : Bool) (group : List ℕ) w
 
   item_good : (v : AstValue) (i : Item) → (is_aggregate v ≡ true → grouped ≡ true) → item_of tables scope plain v ≡ Ok i → IsGood i
   item_good (value.Plain e) i g h =
-      let p = bind_ok (any_of tables plain e) (λ bound. Ok (item.Plain bound)) i h in
+      let p = bind_ok (of_any_type tables plain e) (λ bound. Ok (item.Plain bound)) i h in
       subst IsGood (ok_is (item.Plain p.0) i p.2) (bound_good p.0 (any_fits tables plain e p.0 p.1))
   item_good value.CountAll i g h = subst IsGood (ok_is item.CountAll i h) (other_good item.CountAll tt (λ _. tt) (g refl))
   item_good (value.Count e) i g h =
-      let p = bind_ok (any_of tables scope e) (λ bound. Ok (item.Count bound)) i h in
+      let p = bind_ok (of_any_type tables scope e) (λ bound. Ok (item.Count bound)) i h in
       subst IsGood (ok_is (item.Count p.0) i p.2) (other_good (item.Count p.0) (any_fits tables scope e p.0 p.1).type (λ _. tt) (g refl))
   item_good (value.Sum e) i g h =
       let p = bind_ok (taken_by type.Int tables scope e) (λ bound. Ok (item.Sum bound)) i h in
       subst IsGood (ok_is (item.Sum p.0) i p.2) (other_good (item.Sum p.0) (taken_fits tables scope type.Int e p.0 p.1) (λ _. tt) (g refl))
   item_good (value.Min e) i g h =
-      let p = bind_ok (any_of tables scope e) (λ bound. Ok (item.Min bound)) i h in
+      let p = bind_ok (of_any_type tables scope e) (λ bound. Ok (item.Min bound)) i h in
       subst IsGood (ok_is (item.Min p.0) i p.2) (other_good (item.Min p.0) (any_fits tables scope e p.0 p.1).type (λ _. tt) (g refl))
   item_good (value.Max e) i g h =
-      let p = bind_ok (any_of tables scope e) (λ bound. Ok (item.Max bound)) i h in
+      let p = bind_ok (of_any_type tables scope e) (λ bound. Ok (item.Max bound)) i h in
       subst IsGood (ok_is (item.Max p.0) i p.2) (other_good (item.Max p.0) (any_fits tables scope e p.0 p.1).type (λ _. tt) (g refl))
 
   abbrev is_counted : AstItem → Bool
@@ -173,7 +185,7 @@ module _ (tables : Tables) (scope : Scope) (grouped : Bool) (group : List ℕ) w
       plain_good (expr.Col place) (record { type = get_or columns place type.Any; is = type_column columns place ∙ slice_get-get_or columns place type.Any within })
       (λ is. allowed_in grouped allowed is)
     where
-      allowed_in : (b : Bool) → is_allowed (only_group b group) place ≡ true → b ≡ true → is_within group (expr.Col place) ≡ true
+      allowed_in : (b : Bool) → is_allowed (only_group b group) place ≡ true → b ≡ true → is_of_columns group (expr.Col place) ≡ true
       allowed_in true a is = within_column group place ∙ a
       allowed_in false a is = absurd cc
 
@@ -264,7 +276,7 @@ module _ (tables : Tables) (scope : Scope) (grouped : Bool) (group : List ℕ) w
       let within = meant_within list column.table column.name place is in
       subst (IsGoodBy items) (ok_is (by.Item place) b h) (omega (arith, within, few), λ _. tt)
   by_good list items column None b few is h =
-      let p = bind_ok (column_of tables plain column) (λ found. Ok (by.Column found.place)) b h in
+      let p = bind_ok (column_meant tables plain column) (λ found. Ok (by.Column found.place)) b h in
       let a = column_allowed tables plain column p.0 p.1 in
       subst (IsGoodBy items) (ok_is (by.Column p.0.place) b p.2) (slice_get_within columns p.0.place p.0.of a.column, λ is. grouped_only grouped p.0.place a.group is)
     where
@@ -331,6 +343,7 @@ module _ (tables : Tables) (select : SelectStmt) (scope : Scope) (from : IsFrom 
           shown = numbers_shown tables select scope from;
           tests = over (λ ts. All (IsTest ts) tests) (query_tests tables scope select tests t);
           group = over (λ ts. All (λ place. place < length ts) group) (group_within tables scope [] select.group group (All-nil (IsColumnNo tables scope)) g);
+          apart = group_apart tables scope [] select.group group (apart_none nat_eq) g;
           some_items = made.some;
           few_items = made.few;
           items = over (λ ts. All (IsItem ts) items) (λ k d lt. (made.items.good k d lt).types);

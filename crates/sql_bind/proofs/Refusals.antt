@@ -46,12 +46,12 @@ use Rattle.sql_bind.specs.declared.scope.Known.{Known}
 use Rattle.sql_bind.specs.declared.scope.Scope.{Scope}
 use Rattle.sql_bind.specs.Conditions.{conjuncts, condition_of, filter_of}
 use Rattle.sql_bind.specs.Deletes.{delete_of}
-use Rattle.sql_bind.specs.Expressions.{operator, joined, negated, denied, column, expression_of, taken_by, any_of}
+use Rattle.sql_bind.specs.Expressions.{operator, joined, negated, denied, column, expression_of, taken_by, of_any_type}
 use Rattle.sql_bind.specs.Inserts.{listed_column, listed_columns, next_value, row_of, rows_of, insert_of}
 use Rattle.sql_bind.specs.Items.{item_of, star_item, next_star, star_of, listed, items_of}
-use Rattle.sql_bind.specs.Names.{table_named, known_of, columns_of, known_columns, type_at, place_named, column_named, found_in, only_one, found_of, is_allowed, column_of, alone, nowhere}
+use Rattle.sql_bind.specs.Names.{table_named, known_of, columns_of, known_columns, type_at, place_named, column_named, found_in, only_one, found_of, is_allowed, column_meant, alone, nowhere}
 use Rattle.sql_bind.specs.Orders.{has_alias, written_items, only_item, item_meant, item_or_column, sort_of, order_of}
-use Rattle.sql_bind.specs.Selects.{joined_of, different, from_of, on_of, once, group_behind, is_grouped, plain_of, tests_of, select_of, lock_of}
+use Rattle.sql_bind.specs.Selects.{second_of, different, from_of, on_of, once, group_behind, is_grouped, plain_of, tests_of, select_of, lock_of}
 use Rattle.sql_bind.specs.Statements.{is_of_tables, bound_of}
 use Rattle.sql_bind.specs.Steps.{◌>>◌, refused_if, refused_unless, each_behind}
 use Rattle.sql_bind.specs.Updates.{is_set, column_behind, set_behind, update_of}
@@ -109,8 +109,8 @@ module _ (tables : Tables) where
   only_clean name None (Some x) = tt
   only_clean name (Some x) (Some y) = tt
 
-  column_clean : (scope : Scope) (name : ColRef) → Clean (column_of tables scope name)
-  unfolding column_of found_of
+  column_clean : (scope : Scope) (name : ColRef) → Clean (column_meant tables scope name)
+  unfolding column_meant found_of
   column_clean scope name =
       then (found_of tables scope name) _ (only_clean name (found_in tables 0 name scope.left) (found_in tables (length (known_columns tables scope.left)) name scope.right))
       (λ found. behind (refused_unless (is_allowed scope.group found.place) (fault.NotGrouped _)) (Ok found) (unless_clean (is_allowed scope.group found.place) (fault.NotGrouped _) tt) tt)
@@ -144,7 +144,7 @@ module _ (tables : Tables) where
 
     clean_level : (y : Ast-F ((a : Ast) × IsClean a)) → IsClean (roll-Ast (map-Ast ((a : Ast) × IsClean a) Ast (λ e. e.0) y))
     clean_level (Ast-F.Lit c) = subst IsClean (sym (ast.rolls-Lit c)) (subst Clean (sym (levels.of_literal tables scope c)) tt)
-    clean_level (Ast-F.Column name) = subst IsClean (sym (ast.rolls-Column name)) (subst Clean (sym (levels.of_column tables scope name)) (then (column_of tables scope name) _ (column_clean scope name) (λ _. tt)))
+    clean_level (Ast-F.Column name) = subst IsClean (sym (ast.rolls-Column name)) (subst Clean (sym (levels.of_column tables scope name)) (then (column_meant tables scope name) _ (column_clean scope name) (λ _. tt)))
     clean_level (Ast-F.Neg a) = subst IsClean (sym (ast.rolls-Neg a.0)) (subst Clean (sym (levels.of_neg tables scope a.0)) (then (expression_of tables scope a.0) (λ x. negated x) a.1 (λ x. operator_clean _ _)))
     clean_level (Ast-F.Not a) = subst IsClean (sym (ast.rolls-Not a.0)) (subst Clean (sym (levels.of_not tables scope a.0)) (then (expression_of tables scope a.0) (λ x. denied x) a.1 (λ x. operator_clean _ _)))
     clean_level (Ast-F.Binary o a b) = subst IsClean (sym (ast.rolls-Binary o a.0 b.0)) (subst Clean (sym (levels.of_binary tables scope o a.0 b.0))
@@ -160,8 +160,8 @@ module _ (tables : Tables) where
         then (expression_of tables scope a) _ (expression_clean a)
         (λ x. behind (refused_unless (takes wanted x.of) fault.TypeClash) (Ok x.expr) (unless_clean (takes wanted x.of) fault.TypeClash tt) tt)
 
-    any_clean : (a : Ast) → Clean (any_of tables scope a)
-    unfolding any_of
+    any_clean : (a : Ast) → Clean (of_any_type tables scope a)
+    unfolding of_any_type
     any_clean a = then (expression_of tables scope a) _ (expression_clean a) (λ _. tt)
 
     condition_clean : (test : Ast) → Clean (condition_of tables scope test)
@@ -178,7 +178,7 @@ module _ (tables : Tables) where
 
   -- ---- queries
 
-  joined_table_clean : (join : Option JoinRef) → Clean (joined_of tables join)
+  joined_table_clean : (join : Option JoinRef) → Clean (second_of tables join)
   joined_table_clean None = tt
   joined_table_clean (Some join) = then (known_of tables join.table) _ (known_clean join.table) (λ _. tt)
 
@@ -190,7 +190,7 @@ module _ (tables : Tables) where
   unfolding from_of
   from_clean select =
       then (known_of tables select.left) _ (known_clean select.left)
-      (λ left. then (joined_of tables select.right) _ (joined_table_clean select.right) (λ right. behind (different left right) _ (different_clean left right) tt))
+      (λ left. then (second_of tables select.right) _ (joined_table_clean select.right) (λ right. behind (different left right) _ (different_clean left right) tt))
 
   tests_clean : (scope : Scope) (select : SelectStmt) → Clean (tests_of tables scope select)
   unfolding tests_of
@@ -199,15 +199,15 @@ module _ (tables : Tables) where
   group_clean : (scope : Scope) (group : List ℕ) (columns : List ColRef) → Clean (group_behind tables scope group columns)
   group_clean scope group [] = tt
   group_clean scope group (c ∷ columns) =
-      then (column_of tables scope c) (λ found. group_behind tables scope (once group found.place) columns) (column_clean scope c) (λ found. group_clean scope (once group found.place) columns)
+      then (column_meant tables scope c) (λ found. group_behind tables scope (once group found.place) columns) (column_clean scope c) (λ found. group_clean scope (once group found.place) columns)
 
   item_clean : (scope plain : Scope) (v : AstValue) → Clean (item_of tables scope plain v)
-  item_clean scope plain (value.Plain e) = then (any_of tables plain e) _ (any_clean plain e) (λ _. tt)
+  item_clean scope plain (value.Plain e) = then (of_any_type tables plain e) _ (any_clean plain e) (λ _. tt)
   item_clean scope plain value.CountAll = tt
-  item_clean scope plain (value.Count e) = then (any_of tables scope e) _ (any_clean scope e) (λ _. tt)
+  item_clean scope plain (value.Count e) = then (of_any_type tables scope e) _ (any_clean scope e) (λ _. tt)
   item_clean scope plain (value.Sum e) = then (taken_by type.Int tables scope e) _ (taken_clean scope type.Int e) (λ _. tt)
-  item_clean scope plain (value.Min e) = then (any_of tables scope e) _ (any_clean scope e) (λ _. tt)
-  item_clean scope plain (value.Max e) = then (any_of tables scope e) _ (any_clean scope e) (λ _. tt)
+  item_clean scope plain (value.Min e) = then (of_any_type tables scope e) _ (any_clean scope e) (λ _. tt)
+  item_clean scope plain (value.Max e) = then (of_any_type tables scope e) _ (any_clean scope e) (λ _. tt)
 
   star_clean : (plain : Scope) (place : ℕ) (c : ColumnDef) → Clean (star_item plain place c)
   star_clean plain place c = behind (refused_unless (is_allowed plain.group place) (fault.NotGrouped c.name)) _ (unless_clean (is_allowed plain.group place) (fault.NotGrouped c.name) tt) tt
@@ -235,7 +235,7 @@ module _ (tables : Tables) where
 
   by_clean : (plain : Scope) (name : ColRef) (o : Option ℕ) → Clean (item_or_column tables plain name o)
   by_clean plain name (Some place) = tt
-  by_clean plain name None = then (column_of tables plain name) _ (column_clean plain name) (λ _. tt)
+  by_clean plain name None = then (column_meant tables plain name) _ (column_clean plain name) (λ _. tt)
 
   sort_clean : (plain : Scope) (list : List AstItem) (order : OrderRef) → Clean (sort_of tables plain list order)
   unfolding sort_of

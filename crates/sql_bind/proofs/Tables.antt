@@ -18,7 +18,7 @@ use Rattle.sql_bind.specs.declared.fault.BindFault.TheVariants as fault
 use Rattle.sql_bind.specs.declared.scope.Known.{Known}
 use Rattle.sql_bind.specs.declared.scope.Scope.{Scope}
 use Rattle.sql_bind.specs.Names.{table_named, known_name, known_of, everywhere, columns_of, column_types}
-use Rattle.sql_bind.specs.Selects.{joined_of, different, from_of, numbers_in, numbers_of}
+use Rattle.sql_bind.specs.Selects.{second_of, different, from_of, numbers_in, numbers_of}
 use Rattle.sql_bind.specs.Sound.{types_of}
 use Rattle.sql_bind.specs.Steps.{◌>>◌}
 use Rattle.sql_bind.proofs.Lists.{All-one}
@@ -42,7 +42,7 @@ module _ (tables : Tables) where
       let p = bind_ok (table_named tables table.name) _ known h in
       subst (λ (k : Known). IsShown k.table) (ok_is (record { name = known_name table; table = p.0 }) known p.2) (named_shown table.name p.0 p.1)
 
-  joined_shown : (join : Option JoinRef) (right : Option Known) → joined_of tables join ≡ Ok right → (is_some right ≡ is_some join) × All IsShown (numbers_in right)
+  joined_shown : (join : Option JoinRef) (right : Option Known) → second_of tables join ≡ Ok right → (is_some right ≡ is_some join) × All IsShown (numbers_in right)
   joined_shown None right h = let P : Option Known → Type 0 = λ r. (is_some r ≡ false) × All IsShown (numbers_in r) in subst P (ok_is None right h) (refl, All-nil IsShown)
   joined_shown (Some join) right h =
       let p = bind_ok (known_of tables join.table) _ right h in
@@ -66,7 +66,7 @@ module _ (tables : Tables) where
   unfolding from_of
   is_from select scope h =
       let p = bind_ok (known_of tables select.left) _ scope h in
-      let q = bind_ok (joined_of tables select.right) _ scope p.2 in
+      let q = bind_ok (second_of tables select.right) _ scope p.2 in
       let r = joined_shown select.right q.0 q.1 in
       record {
         left = p.0;

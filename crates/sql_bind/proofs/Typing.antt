@@ -33,9 +33,9 @@ use Rattle.sql_bind.specs.declared.fault.BindFault.TheVariants as fault
 use Rattle.sql_bind.specs.declared.names.Found.{Found}
 use Rattle.sql_bind.specs.declared.scope.Known.{Known}
 use Rattle.sql_bind.specs.declared.scope.Scope.{Scope}
-use Rattle.sql_bind.specs.Expressions.{typed, operator, negated, denied, null_test, joined, expression_of, taken_by, any_of}
-use Rattle.sql_bind.specs.Names.{columns_of, known_columns, column_types, type_at, place_named, is_meant, found_at, found_in, only_one, found_of, is_allowed, column_of}
-use Rattle.sql_bind.specs.Sound.{IsTaken, HasType, is_within}
+use Rattle.sql_bind.specs.Expressions.{typed, operator, negated, denied, null_test, joined, expression_of, taken_by, of_any_type}
+use Rattle.sql_bind.specs.Names.{columns_of, known_columns, column_types, type_at, place_named, is_meant, found_at, found_in, only_one, found_of, is_allowed, column_meant}
+use Rattle.sql_bind.specs.Sound.{IsTypedFor, HasType, is_of_columns}
 use Rattle.sql_bind.specs.Steps.{◌>>◌, refused_unless}
 use Rattle.sql_bind.proofs.Levels as levels
 
@@ -136,8 +136,8 @@ module _ (tables : Tables) (scope : Scope) where
     pub column : IsColumn found
     pub group : is_allowed scope.group found.place ≡ true
 
-  pub column_allowed : (name : ColRef) (found : Found) → column_of tables scope name ≡ Ok found → IsAllowed found
-  unfolding column_of
+  pub column_allowed : (name : ColRef) (found : Found) → column_meant tables scope name ≡ Ok found → IsAllowed found
+  unfolding column_meant
   column_allowed name found h =
       let p = bind_ok (found_of tables scope name) _ found h in
       let q = allowed (is_allowed scope.group p.0.place) _ p.0 found p.2 in
@@ -148,15 +148,15 @@ module _ (tables : Tables) (scope : Scope) where
 -- the expression has columns of the list alone, where there is one
 abbrev pub IsWithin : Option (List ℕ) → Expr → Type 0
 IsWithin None e = ⊤
-IsWithin (Some group) e = is_within group e ≡ true
+IsWithin (Some group) e = is_of_columns group e ≡ true
 
-within_same : (group : Option (List ℕ)) (a b : Expr) → ((g : List ℕ) → is_within g b ≡ is_within g a) → IsWithin group a → IsWithin group b
+within_same : (group : Option (List ℕ)) (a b : Expr) → ((g : List ℕ) → is_of_columns g b ≡ is_of_columns g a) → IsWithin group a → IsWithin group b
 within_same None a b e w = tt
 within_same (Some g) a b e w = e g ∙ w
 
-within_both : (group : Option (List ℕ)) (a b c : Expr) → ((g : List ℕ) → is_within g c ≡ (is_within g a && is_within g b)) → IsWithin group a → IsWithin group b → IsWithin group c
+within_both : (group : Option (List ℕ)) (a b c : Expr) → ((g : List ℕ) → is_of_columns g c ≡ (is_of_columns g a && is_of_columns g b)) → IsWithin group a → IsWithin group b → IsWithin group c
 within_both None a b c e v w = tt
-within_both (Some g) a b c e v w = e g ∙ and_from (is_within g a) (is_within g b) v w
+within_both (Some g) a b c e v w = e g ∙ and_from (is_of_columns g a) (is_of_columns g b) v w
 
 module _ (columns : List ValueType) (group : Option (List ℕ)) where
   -- the expression has its type, and its columns may stand there
@@ -235,7 +235,7 @@ module _ (tables : Tables) (scope : Scope) where
 
   told_column : (name : ColRef) → IsTold (ast.Column name)
   told_column name t h =
-      let p = bind_ok (column_of tables scope name) _ t (sym (levels.of_column tables scope name) ∙ h) in
+      let p = bind_ok (column_meant tables scope name) _ t (sym (levels.of_column tables scope name) ∙ h) in
       let found = p.0 in
       let r = column_allowed tables scope name found p.1 in
       subst IsFitting (ok_is (typed (expr.Col found.place) found.of) t p.2) (record {
@@ -283,8 +283,8 @@ module _ (tables : Tables) (scope : Scope) where
     pub type : HasType (scope_types tables scope) e
     pub within : IsWithin scope.group e
 
-  pub any_fits : (a : Ast) (e : Expr) → any_of tables scope a ≡ Ok e → IsBoundTo e
-  unfolding any_of
+  pub any_fits : (a : Ast) (e : Expr) → of_any_type tables scope a ≡ Ok e → IsBoundTo e
+  unfolding of_any_type
   any_fits a e h =
       let p = bind_ok (expression_of tables scope a) (λ x. Ok x.expr) e h in
       let f = fitting a p.0 p.1 in
@@ -294,10 +294,10 @@ module _ (tables : Tables) (scope : Scope) where
   taken true x e h = (refl, ok_is x e h)
   taken false x e h = absurd cc
 
-  pub taken_fits : (wanted : ValueType) (a : Ast) (e : Expr) → taken_by wanted tables scope a ≡ Ok e → IsTaken wanted (scope_types tables scope) e
+  pub taken_fits : (wanted : ValueType) (a : Ast) (e : Expr) → taken_by wanted tables scope a ≡ Ok e → IsTypedFor wanted (scope_types tables scope) e
   unfolding taken_by
   taken_fits wanted a e h =
       let p = bind_ok (expression_of tables scope a) _ e h in
       let q = taken (takes wanted p.0.of) p.0.expr e p.2 in
       let f = fitting a p.0 p.1 in
-      subst (IsTaken wanted (scope_types tables scope)) q.1 (record { type = p.0.of; is = f.type; taken = q.0 })
+      subst (IsTypedFor wanted (scope_types tables scope)) q.1 (record { type = p.0.of; is = f.type; taken = q.0 })

@@ -1,14 +1,11 @@
 -- Bound INSERTs, UPDATEs and DELETEs.
-use Rattle.std.proofs.Common.{◌≡◌, ℕ, zero, suc, ◌+◌, ◌<◌, Bool, true, false, nat_eq, ◌==◌, Option, Some, None, List, [], ◌∷◌, ◌++◌, length, length-append, map, get_or, Result, Ok, refl, sym, ap, subst, ◌∙◌, inl, inr, append-nil, arith}
+use Rattle.std.proofs.Common.{◌≡◌, ℕ, zero, suc, ◌+◌, ◌<◌, Bool, true, false, nat_eq, ◌==◌, Option, Some, None, List, [], ◌∷◌, ◌++◌, length, length-append, map, get_or, Result, Ok, refl, sym, ap, subst, ◌∙◌, inl, inr, arith}
 use Rattle.std.specs.Prelude.{slice_get, slice_index_or, ok_or}
-use Rattle.std.specs.List.{All, list_any, range_with_len}
-use Rattle.std.proofs.lemmas.Bool.{both_ways, false_from_ne_true, eqb-true, cases_lt}
+use Rattle.std.specs.List.{All, range_with_len}
+use Rattle.std.proofs.lemmas.Bool.{eqb-true}
 use Rattle.std.proofs.lemmas.Bool.Decides.{nat_tests}
-use Rattle.std.proofs.lemmas.List.{get_or_append_left}
 use Rattle.std.proofs.lemmas.List.Elements.{All-nil, All-append}
-use Rattle.std.proofs.lemmas.List.Folds.{list_any_at}
 use Rattle.std.proofs.lemmas.List.FromFn.{length-range_with_len, get_or-range_with_len}
-use Rattle.std.proofs.Math.Seq.{get_or-append_seam}
 use Rattle.std.proofs.lemmas.List.Quantifiers.{position-Some}
 use Rattle.geo_base.specs.Order.{text_eq}
 use Rattle.geo_base.specs.Results.{◌>>=◌}
@@ -40,11 +37,11 @@ use Rattle.sql_bind.specs.Conditions.{filter_of}
 use Rattle.sql_bind.specs.Deletes.{delete_of}
 use Rattle.sql_bind.specs.Expressions.{taken_by}
 use Rattle.sql_bind.specs.Inserts.{listed_column, listed_columns, next_value, row_of, rows_of, insert_of}
-use Rattle.sql_bind.specs.Names.{table_named, columns_of, column_types, type_at, place_named, column_named, alone, nowhere}
-use Rattle.sql_bind.specs.Sound.{IsTaken, IsSoundRow, IsSoundInsert, IsSoundSet, same_set, IsSoundUpdate, IsSoundDelete}
+use Rattle.sql_bind.specs.Names.{table_named, columns_of, type_at, place_named, column_named, alone, nowhere}
+use Rattle.sql_bind.specs.Sound.{IsTypedFor, IsSoundRow, IsSoundInsert, IsSoundSet, same_set, IsSoundUpdate, IsSoundDelete}
 use Rattle.sql_bind.specs.Steps.{◌>>◌, refused_if, refused_unless, each_behind}
 use Rattle.sql_bind.specs.Updates.{is_set, column_behind, set_behind, update_of}
-use Rattle.sql_bind.proofs.Lists.{All-one, all_made, kept, count, at_end}
+use Rattle.sql_bind.proofs.Lists.{All-one, all_made, kept, count, at_end, apart_more, apart_none}
 use Rattle.sql_bind.proofs.Places.{all_below}
 use Rattle.sql_bind.proofs.Queries.{missed, filter_tests}
 use Rattle.sql_bind.proofs.Tables.{named_shown}
@@ -58,29 +55,6 @@ column_within columns name place h = by (place_named columns name) refl h
     by : (o : Option ℕ) → place_named columns name ≡ o → (let r : Result ℕ BindFault = ok_or o (fault.NoColumn name) in r ≡ Ok place) → place < length columns
     by None is e = absurd cc
     by (Some n) is e = subst (λ (k : ℕ). k < length columns) (ok_is n place e) (position-Some (λ c. text_eq c.name name) columns n no_column is).0
-
--- one more item, which none before it is like
-module _ {A : Type 0} (same : A → A → Bool) where
-  unlike : (items : List A) (y : A) (i : ℕ) (d : A) → list_any (λ e. same e y) items ≡ false → i < length items → same (get_or items i d) y ≡ false
-  unlike items y i d none within = false_from_ne_true (same (get_or items i d) y) (λ t. both_ways (list_any (λ e. same e y) items) none (list_any_at (λ e. same e y) items i d within t))
-
-  pub apart_more : (items : List A) (y : A) → AreApart same items → list_any (λ e. same e y) items ≡ false → AreApart same (items ++ y ∷ [])
-  apart_more items y apart none i j d before within =
-      let one = length-append items (y ∷ []) in
-      let early : i < length items = omega arith in
-      let left : get_or (items ++ y ∷ []) i d ≡ get_or items i d = get_or_append_left items (y ∷ []) d i early in
-      elim (cases_lt j (length items)) [
-        | inl inside ↦
-            let right : get_or (items ++ y ∷ []) j d ≡ get_or items j d = get_or_append_left items (y ∷ []) d j inside in
-            rw (left, right) (apart i j d before inside)
-        | inr upto ↦
-            let last : j ≡ length items = omega arith in
-            let right : get_or (items ++ y ∷ []) j d ≡ y = rw last (get_or-append_seam items y [] d) in
-            rw (left, right) (unlike items y i d none early)
-      ]
-
-apart_none : {A : Type 0} (same : A → A → Bool) → AreApart same []
-apart_none same i j d before within = absurd (omega arith)
 
 -- the first places are apart
 places_apart : (places : List ℕ) (n : ℕ) → places ≡ range_with_len 0 n → AreApart nat_eq places
@@ -130,12 +104,12 @@ module _ (tables : Tables) (columns : List ColumnDef) (places : List ℕ) where
   types = map (type_at columns) places
 
   abbrev AreValues : List Expr → Type 0
-  AreValues values = (k : ℕ) (e : Expr) → slice_get values k ≡ Some e → IsTaken (type_at columns (slice_index_or places k 0)) [] e
+  AreValues values = (k : ℕ) (e : Expr) → slice_get values k ≡ Some e → IsTypedFor (type_at columns (slice_index_or places k 0)) [] e
 
-  value_added : (done : List Expr) (y : Expr) → AreValues done → IsTaken (type_at columns (slice_index_or places (length done) 0)) [] y → AreValues (done ++ y ∷ [])
+  value_added : (done : List Expr) (y : Expr) → AreValues done → IsTypedFor (type_at columns (slice_index_or places (length done) 0)) [] y → AreValues (done ++ y ∷ [])
   value_added done y all here k e h = elim (at_end done y e k h) [
     | inl p ↦ all k e p.1
-    | inr p ↦ subst (λ (x : Expr). IsTaken (type_at columns (slice_index_or places k 0)) [] x) p.1 (subst (λ (n : ℕ). IsTaken (type_at columns (slice_index_or places n 0)) [] y) (sym p.0) here)
+    | inr p ↦ subst (λ (x : Expr). IsTypedFor (type_at columns (slice_index_or places k 0)) [] x) p.1 (subst (λ (n : ℕ). IsTypedFor (type_at columns (slice_index_or places n 0)) [] y) (sym p.0) here)
   ]
 
   values_good : (done : List Expr) (list : List Ast) (out : List Expr) → length done + length list ≡ length places → AreValues done → each_behind (next_value tables types) done list ≡ Ok out → AreValues out
@@ -144,7 +118,7 @@ module _ (tables : Tables) (columns : List ColumnDef) (places : List ℕ) where
       let p = bind_ok (next_value tables types done v) (λ next. each_behind (next_value tables types) (done ++ next ∷ []) list) out h in
       let within : length done < length places = omega arith in
       let taken = taken_fits tables nowhere (slice_index_or types (length done) type.Any) v p.0 p.1 in
-      let here = subst (λ (t : ValueType). IsTaken t [] p.0) (types_at columns places (length done) within) taken in
+      let here = subst (λ (t : ValueType). IsTypedFor t [] p.0) (types_at columns places (length done) within) taken in
       let one = length-append done (p.0 ∷ []) in
       values_good (done ++ p.0 ∷ []) list out (omega (arith, n, one)) (value_added done p.0 all here) p.2
 
@@ -211,7 +185,7 @@ module _ (tables : Tables) (name : List ℕ) (number : ℕ) where
       two false false x e = (refl, refl, ok_is x place e)
 
   record AreSets (sets : List SetTo) : Type 0 where
-    pub sound : All (IsSoundSet table) sets
+    pub sound : All (IsSoundSet tables number) sets
     pub apart : AreApart same_set sets
 
   set_kept : (before : List SetTo) (set : AstSet) (out : SetTo) → AreSets before → set_behind tables scope table before set ≡ Ok out → AreSets (before ++ out ∷ [])
@@ -220,15 +194,15 @@ module _ (tables : Tables) (name : List ℕ) (number : ℕ) where
       let p = bind_ok (column_behind table.columns table.key before set.column) _ out h in
       let q = bind_ok (taken_by (type_at table.columns p.0) tables scope set.value) _ out p.2 in
       let c = set_column before set.column p.0 p.1 in
-      let typed = subst (λ (ts : List ValueType). IsTaken (type_at table.columns p.0) ts q.0) (append-nil (column_types table.columns)) (taken_fits tables scope (type_at table.columns p.0) set.value q.0 q.1) in
-      let sound : IsSoundSet table (record { column = p.0; value = q.0 }) = record { column = c.within; not_key = c.not_key; value = typed } in
+      let typed = taken_fits tables scope (type_at table.columns p.0) set.value q.0 q.1 in
+      let sound : IsSoundSet tables number (record { column = p.0; value = q.0 }) = record { column = c.within; not_key = c.not_key; value = typed } in
       subst (λ (s : SetTo). AreSets (before ++ s ∷ [])) (ok_is (record { column = p.0; value = q.0 }) out q.2) (record {
-        sound = All-append (IsSoundSet table) before (record { column = p.0; value = q.0 } ∷ []) good.sound (All-one (IsSoundSet table) (record { column = p.0; value = q.0 }) sound);
+        sound = All-append (IsSoundSet tables number) before (record { column = p.0; value = q.0 } ∷ []) good.sound (All-one (IsSoundSet tables number) (record { column = p.0; value = q.0 }) sound);
         apart = apart_more same_set before (record { column = p.0; value = q.0 }) good.apart c.not_set;
       })
 
   sets_good : (sets : List AstSet) (out : List SetTo) → each_behind (set_behind tables scope table) [] sets ≡ Ok out → AreSets out
-  sets_good sets out h = kept (set_behind tables scope table) AreSets set_kept [] sets out (record { sound = All-nil (IsSoundSet table); apart = apart_none same_set }) h
+  sets_good sets out h = kept (set_behind tables scope table) AreSets set_kept [] sets out (record { sound = All-nil (IsSoundSet tables number); apart = apart_none same_set }) h
 
 pub update_sound : (tables : Tables) (update : UpdateStmt) (b : BoundUpdate) → update_of tables update ≡ Ok b → IsSoundUpdate tables b
 unfolding update_of

@@ -22,7 +22,7 @@ use Rattle.sql_bind.specs.declared.expressions.Typed.{Typed}
 use Rattle.sql_bind.specs.declared.fault.BindFault.{BindFault}
 use Rattle.sql_bind.specs.declared.fault.BindFault.TheVariants as fault
 use Rattle.sql_bind.specs.declared.scope.Scope.{Scope}
-use Rattle.sql_bind.specs.Names.{column_of}
+use Rattle.sql_bind.specs.Names.{column_meant}
 use Rattle.sql_bind.specs.Steps.{◌>>◌, refused_unless}
 
 -- what binding an expression gives
@@ -72,7 +72,7 @@ literal cell = Ok (typed (expr.Lit cell) (literal_type cell))
 -- a column
 abbrev pub column : Tables → Scope → ColRef → TypedOrFault
 column tables scope name = do
-  found ← column_of tables scope name
+  found ← column_meant tables scope name
   Ok (typed (expr.Col found.place) found.of)
 
 -- a minus before a bound operand
@@ -117,7 +117,7 @@ taken_by wanted tables scope value = do
   Ok bound.expr
 
 -- an expression of any type
-unfoldable pub any_of : Tables → Scope → Ast → Result Expr BindFault
-any_of tables scope value = do
+unfoldable pub of_any_type : Tables → Scope → Ast → Result Expr BindFault
+of_any_type tables scope value = do
   bound ← expression_of tables scope value
   Ok bound.expr

@@ -17,9 +17,9 @@ use Rattle.sql_bind.specs.declared.bound.Item.TheVariants as item
 use Rattle.sql_bind.specs.declared.fault.BindFault.{BindFault}
 use Rattle.sql_bind.specs.declared.fault.BindFault.TheVariants as fault
 use Rattle.sql_bind.specs.declared.scope.Scope.{Scope}
-use Rattle.sql_bind.specs.Expressions.{any_of, taken_by}
+use Rattle.sql_bind.specs.Expressions.{of_any_type, taken_by}
 use Rattle.sql_bind.specs.Names.{known_columns, is_allowed}
-use Rattle.sql_bind.specs.Steps.{◌>>◌, refused_unless, each, each_behind}
+use Rattle.sql_bind.specs.Steps.{◌>>◌, ◌<$>◌, refused_unless, each, each_behind}
 
 -- ---- aggregates
 
@@ -38,22 +38,12 @@ has_aggregate (items.List list) = list_any (λ i. is_aggregate i.value) list
 -- an item: plain ones are bound where only columns of GROUP BY may stand, if the query is grouped, and the arguments
 -- of aggregates where every column may; SUM takes numbers
 abbrev pub item_of : Tables → Scope → Scope → AstValue → Result Item BindFault
-item_of tables scope plain (value.Plain e) = do
-  bound ← any_of tables plain e
-  Ok (item.Plain bound)
+item_of tables scope plain (value.Plain e) = item.Plain <$> of_any_type tables plain e
 item_of tables scope plain value.CountAll = Ok item.CountAll
-item_of tables scope plain (value.Count e) = do
-  bound ← any_of tables scope e
-  Ok (item.Count bound)
-item_of tables scope plain (value.Sum e) = do
-  bound ← taken_by type.Int tables scope e
-  Ok (item.Sum bound)
-item_of tables scope plain (value.Min e) = do
-  bound ← any_of tables scope e
-  Ok (item.Min bound)
-item_of tables scope plain (value.Max e) = do
-  bound ← any_of tables scope e
-  Ok (item.Max bound)
+item_of tables scope plain (value.Count e) = item.Count <$> of_any_type tables scope e
+item_of tables scope plain (value.Sum e) = item.Sum <$> taken_by type.Int tables scope e
+item_of tables scope plain (value.Min e) = item.Min <$> of_any_type tables scope e
+item_of tables scope plain (value.Max e) = item.Max <$> of_any_type tables scope e
 
 -- ---- all columns
 

@@ -1,6 +1,5 @@
 -- What names of tables and columns mean in a statement.
-use Rattle.std.specs.Prelude.{ℕ, ◌+◌, Bool, true, nat_eq, nat_le, if◌then◌else◌, Option, Some, None, List, [], length, map, position, slice_index_or, ok_or, Result, Ok, Err}
-use Rattle.std.specs.List.{list_any}
+use Rattle.std.specs.Prelude.{ℕ, ◌+◌, Bool, true, nat_le, if◌then◌else◌, Option, Some, None, List, [], length, map, position, slice_index_or, ok_or, Result, Ok, Err}
 use Rattle.std.specs.Option.{option_map, unwrap_or}
 use Rattle.geo_base.specs.declared.limits.TheConstants.{MAX_TEXT_BYTES}
 use Rattle.geo_base.specs.Order.{text_eq}
@@ -8,6 +7,7 @@ use Rattle.geo_base.specs.Results.{◌>>=◌}
 use Rattle.geo_schema.specs.declared.column.ColumnDef.{ColumnDef}
 use Rattle.geo_schema.specs.declared.column.Kind.{Kind}
 use Rattle.geo_schema.specs.declared.column.Kind.TheVariants as kind
+use Rattle.geo_schema.specs.Rows.{is_in}
 use Rattle.geo_schema.specs.Schemas.{Tables, table_at, number_of}
 use Rattle.geo_schema.specs.Tables.{no_column}
 use Rattle.sql_ast.specs.declared.ast.ColRef.{ColRef}
@@ -124,11 +124,11 @@ found_of tables scope column =
 -- the column may stand there: it is one of GROUP BY, where only these may
 abbrev pub is_allowed : Option (List ℕ) → ℕ → Bool
 is_allowed None place = true
-is_allowed (Some group) place = list_any (λ p. nat_eq p place) group
+is_allowed (Some group) place = is_in group place
 
 -- a column is first looked up, and then it has to be one that may stand there
-unfoldable pub column_of : Tables → Scope → ColRef → Result Found BindFault
-column_of tables scope column = do
+unfoldable pub column_meant : Tables → Scope → ColRef → Result Found BindFault
+column_meant tables scope column = do
   found ← found_of tables scope column
   refused_unless (is_allowed scope.group found.place) (fault.NotGrouped (written column))
   Ok found

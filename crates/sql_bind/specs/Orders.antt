@@ -15,7 +15,7 @@ use Rattle.sql_bind.specs.declared.bound.SortBy.TheVariants as by
 use Rattle.sql_bind.specs.declared.fault.BindFault.{BindFault}
 use Rattle.sql_bind.specs.declared.fault.BindFault.TheVariants as fault
 use Rattle.sql_bind.specs.declared.scope.Scope.{Scope}
-use Rattle.sql_bind.specs.Names.{column_of}
+use Rattle.sql_bind.specs.Names.{column_meant}
 use Rattle.sql_bind.specs.Steps.{◌>>◌, refused_if, each}
 
 -- the name is that which AS gives
@@ -48,7 +48,7 @@ item_meant list None name = only_item list name (position (has_alias name) list)
 abbrev pub item_or_column : Tables → Scope → ColRef → Option ℕ → Result SortBy BindFault
 item_or_column tables plain column (Some place) = Ok (by.Item place)
 item_or_column tables plain column None = do
-  found ← column_of tables plain column
+  found ← column_meant tables plain column
   Ok (by.Column found.place)
 
 -- what one column of ORDER BY sorts by

@@ -1,8 +1,8 @@
 -- Bound queries.
-use Rattle.std.specs.Prelude.{ℕ, ◌==◌, Bool, not, ◌||◌, nat_eq, if◌then◌else◌, Option, Some, None, is_some, List, [], ◌∷◌, ◌++◌, length, Result, Ok}
-use Rattle.std.specs.List.{list_any}
+use Rattle.std.specs.Prelude.{ℕ, ◌==◌, Bool, not, ◌||◌, if◌then◌else◌, Option, Some, None, is_some, List, [], ◌∷◌, ◌++◌, length, Result, Ok}
 use Rattle.geo_base.specs.Order.{text_eq}
 use Rattle.geo_base.specs.Results.{◌>>=◌}
+use Rattle.geo_schema.specs.Rows.{is_in}
 use Rattle.geo_schema.specs.Schemas.{Tables}
 use Rattle.sql_ast.specs.declared.ast.ColRef.{ColRef}
 use Rattle.sql_ast.specs.declared.select.JoinRef.{JoinRef}
@@ -15,20 +15,20 @@ use Rattle.sql_bind.specs.declared.scope.Known.{Known}
 use Rattle.sql_bind.specs.declared.scope.Scope.{Scope}
 use Rattle.sql_bind.specs.Conditions.{condition_of, filter_of}
 use Rattle.sql_bind.specs.Items.{has_aggregate, items_of}
-use Rattle.sql_bind.specs.Names.{known_of, column_of, everywhere}
+use Rattle.sql_bind.specs.Names.{known_of, column_meant, everywhere}
 use Rattle.sql_bind.specs.Orders.{written_items, order_of}
 use Rattle.sql_bind.specs.Steps.{◌>>◌, refused_if}
 
 -- ---- tables
 
 -- the table of JOIN, and none where there is none
-abbrev pub joined_of : Tables → Option JoinRef → Result (Option Known) BindFault
-joined_of tables None = Ok None
-joined_of tables (Some join) = do
+abbrev pub second_of : Tables → Option JoinRef → Result (Option Known) BindFault
+second_of tables None = Ok None
+second_of tables (Some join) = do
   known ← known_of tables join.table
   Ok (Some known)
 
--- two tables are known by different names
+-- that the two are known by different names
 abbrev pub different : Known → Option Known → Result (Unit {0}) BindFault
 different left None = Ok tt
 different left (Some right) = refused_if (text_eq left.name right.name) (fault.Ambiguous left.name)
@@ -37,7 +37,7 @@ different left (Some right) = refused_if (text_eq left.name right.name) (fault.A
 unfoldable pub from_of : Tables → SelectStmt → Result Scope BindFault
 from_of tables select = do
   left ← known_of tables select.left
-  right ← joined_of tables select.right
+  right ← second_of tables select.right
   different left right
   Ok (everywhere left right)
 
@@ -50,13 +50,13 @@ on_of tables scope (Some join) = condition_of tables scope join.on
 
 -- a column once: where it stands among the earlier ones, it isn't added
 abbrev pub once : List ℕ → ℕ → List ℕ
-once group place = if list_any (λ p. nat_eq p place) group then group else group ++ place ∷ []
+once group place = if is_in group place then group else group ++ place ∷ []
 
 -- the columns of GROUP BY from left to right, behind earlier ones
 abbrev pub group_behind : Tables → Scope → List ℕ → List ColRef → Result (List ℕ) BindFault
 group_behind tables scope group [] = Ok group
 group_behind tables scope group (column ∷ columns) = do
-  found ← column_of tables scope column
+  found ← column_meant tables scope column
   group_behind tables scope (once group found.place) columns
 
 -- the query has GROUP BY or an aggregate

@@ -1,10 +1,10 @@
 -- What a bound statement is over the tables that it is bound to: each number is one of a table or a column that there
--- is, each expression has its type, and outside the aggregates of a grouped query only columns of GROUP BY stand.
+-- is, each expression has its type, and the plain items of a grouped query, and the columns that it is ordered by, are of
+-- columns of GROUP BY.
 use Rattle.std.specs.Prelude.{◌≡◌, ◌≢◌, ⊤, ℕ, ◌≤◌, ◌<◌, Bool, true, false, ◌&&◌, nat_eq, List, [], ◌∷◌, length, slice_index_or, slice_get, Some}
 use Rattle.std.specs.List.{All, flat_map}
 use Rattle.geo_base.specs.declared.limits.TheConstants.{MAX_LINE_CELLS}
 use Rattle.geo_schema.specs.declared.column.ColumnDef.{ColumnDef}
-use Rattle.geo_schema.specs.declared.table.TableDef.{TableDef}
 use Rattle.geo_schema.specs.Repeats.{AreApart}
 use Rattle.geo_schema.specs.Rows.{is_in}
 use Rattle.geo_schema.specs.Schemas.{Tables, table_at}
@@ -37,7 +37,7 @@ types_of tables numbers = flat_map (λ table. column_types (columns_of tables ta
 
 -- the expression has a type over columns of these types, so each column in it is one of them; and it may stand where the
 -- wanted type is asked for
-pub record IsTaken (wanted : ValueType) (columns : List ValueType) (e : Expr) : Type 0 where
+pub record IsTypedFor (wanted : ValueType) (columns : List ValueType) (e : Expr) : Type 0 where
   pub type : ValueType
   pub is : type_of columns e ≡ Some type
   pub taken : takes wanted type ≡ true
@@ -49,24 +49,24 @@ pub record HasType (columns : List ValueType) (e : Expr) : Type 0 where
 
 -- a test is a condition, and no AND of two
 pub record IsTest (columns : List ValueType) (e : Expr) : Type 0 where
-  pub truth : IsTaken type.Truth columns e
+  pub truth : IsTypedFor type.Truth columns e
   pub whole : (a b : Expr) → e ≢ expr.And a b
 
 -- one level of an expression, with whether its operands have columns of the list alone
-abbrev pub level_within : List ℕ → Expr-F Bool → Bool
-level_within group (Expr-F.Lit _) = true
-level_within group (Expr-F.Col place) = is_allowed (Some group) place
-level_within group (Expr-F.Neg a) = a
-level_within group (Expr-F.Not a) = a
-level_within group (Expr-F.Arith _ a b) = a && b
-level_within group (Expr-F.Cmp _ a b) = a && b
-level_within group (Expr-F.And a b) = a && b
-level_within group (Expr-F.Or a b) = a && b
-level_within group (Expr-F.IsNull a _) = a
+abbrev pub level_of_columns : List ℕ → Expr-F Bool → Bool
+level_of_columns group (Expr-F.Lit _) = true
+level_of_columns group (Expr-F.Col place) = is_allowed (Some group) place
+level_of_columns group (Expr-F.Neg a) = a
+level_of_columns group (Expr-F.Not a) = a
+level_of_columns group (Expr-F.Arith _ a b) = a && b
+level_of_columns group (Expr-F.Cmp _ a b) = a && b
+level_of_columns group (Expr-F.And a b) = a && b
+level_of_columns group (Expr-F.Or a b) = a && b
+level_of_columns group (Expr-F.IsNull a _) = a
 
 -- each column of the expression is one of the list
-unfoldable pub is_within : List ℕ → Expr → Bool
-is_within group = fold-Expr Bool (level_within group)
+unfoldable pub is_of_columns : List ℕ → Expr → Bool
+is_of_columns group = fold-Expr Bool (level_of_columns group)
 
 -- ---- queries
 
@@ -75,7 +75,7 @@ abbrev pub IsItem : List ValueType → Item → Type 0
 IsItem columns (item.Plain e) = HasType columns e
 IsItem columns item.CountAll = ⊤
 IsItem columns (item.Count e) = HasType columns e
-IsItem columns (item.Sum e) = IsTaken type.Int columns e
+IsItem columns (item.Sum e) = IsTypedFor type.Int columns e
 IsItem columns (item.Min e) = HasType columns e
 IsItem columns (item.Max e) = HasType columns e
 
@@ -86,7 +86,7 @@ is_plain _ = false
 
 -- a plain item has columns of the list alone
 abbrev pub IsItemWithin : List ℕ → Item → Type 0
-IsItemWithin group (item.Plain e) = is_within group e ≡ true
+IsItemWithin group (item.Plain e) = is_of_columns group e ≡ true
 IsItemWithin group _ = ⊤
 
 -- what is sorted by is one of so many items, or one of so many columns
@@ -106,6 +106,7 @@ pub record IsSoundSelect (tables : Tables) (query : BoundSelect) : Type 0 where
   pub shown : All (λ table. table < length tables.shown) query.tables
   pub tests : All (IsTest (types_of tables query.tables)) query.tests
   pub group : All (λ place. place < length (types_of tables query.tables)) query.group
+  pub apart : AreApart nat_eq query.group
   pub some_items : 1 ≤ length query.items
   pub few_items : length query.items ≤ MAX_LINE_CELLS
   pub items : All (IsItem (types_of tables query.tables)) query.items
@@ -124,7 +125,7 @@ pub record IsSoundLock (tables : Tables) (query : BoundSelect) : Type 0 where
 -- a row has one value for each column, and each is of its column's type
 pub record IsSoundRow (columns : List ColumnDef) (places : List ℕ) (row : ExprRow) : Type 0 where
   pub count : length row.values ≡ length places
-  pub values : (k : ℕ) (e : Expr) → slice_get row.values k ≡ Some e → IsTaken (type_at columns (slice_index_or places k 0)) [] e
+  pub values : (k : ℕ) (e : Expr) → slice_get row.values k ≡ Some e → IsTypedFor (type_at columns (slice_index_or places k 0)) [] e
 
 -- the columns of an INSERT are some of the table's, none of them twice
 pub record IsSoundInsert (tables : Tables) (insert : BoundInsert) : Type 0 where
@@ -134,10 +135,10 @@ pub record IsSoundInsert (tables : Tables) (insert : BoundInsert) : Type 0 where
   pub rows : All (IsSoundRow (columns_of tables insert.table) insert.columns) insert.rows
 
 -- what is set is a column that isn't of the key, to a value of its type
-pub record IsSoundSet (table : TableDef) (set : SetTo) : Type 0 where
-  pub column : set.column < length table.columns
-  pub not_key : is_in table.key set.column ≡ false
-  pub value : IsTaken (type_at table.columns set.column) (column_types table.columns) set.value
+pub record IsSoundSet (tables : Tables) (table : ℕ) (set : SetTo) : Type 0 where
+  pub column : set.column < length (columns_of tables table)
+  pub not_key : is_in (table_at tables table).key set.column ≡ false
+  pub value : IsTypedFor (type_at (columns_of tables table) set.column) (types_of tables (table ∷ [])) set.value
 
 -- two sets are of one column
 abbrev pub same_set : SetTo → SetTo → Bool
@@ -146,7 +147,7 @@ same_set a b = nat_eq a.column b.column
 -- an UPDATE sets no column twice
 pub record IsSoundUpdate (tables : Tables) (update : BoundUpdate) : Type 0 where
   pub shown : update.table < length tables.shown
-  pub sets : All (IsSoundSet (table_at tables update.table)) update.sets
+  pub sets : All (IsSoundSet tables update.table) update.sets
   pub apart : AreApart same_set update.sets
   pub tests : All (IsTest (types_of tables (update.table ∷ []))) update.tests
 

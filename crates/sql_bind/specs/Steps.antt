@@ -8,6 +8,11 @@ abbrev pub ◌>>◌ : {A B E : Type 0} → Result A E → Result B E → Result 
 (Ok x) >> b = b
 (Err e) >> b = Err e
 
+-- what a step gives, in another form; a fault is passed on
+infixl 10 ◌<$>◌
+abbrev pub ◌<$>◌ : {A B E : Type 0} → (A → B) → Result A E → Result B E
+f <$> step = step >>= λ x. Ok (f x)
+
 -- the fault, where the test holds
 abbrev pub refused_if : {E : Type 0} → Bool → E → Result (Unit {0}) E
 refused_if test fault = if test then Err fault else Ok tt

@@ -28,19 +28,26 @@ pub type SetToList = Many<SetTo>;
 /// What a query answers of each row, pair or group.
 #[derive(Drop)]
 pub enum Item {
+    /// The value of an expression, which in a grouped query has columns of GROUP BY alone.
     Plain(Expr),
-    /// `COUNT(*)`.
+    /// `COUNT(*)`: how many rows or pairs there are.
     CountAll,
+    /// How many of them have a value that isn't NULL.
     Count(Expr),
+    /// The sum of the values, which are numbers.
     Sum(Expr),
+    /// The least of the values.
     Min(Expr),
+    /// The greatest of them.
     Max(Expr),
 }
 
-/// What a query sorts by: an item or a column, by its number.
+/// What a query sorts by.
 #[derive(Clone, Copy, Debug, PartialEq, Eq)]
 pub enum SortBy {
+    /// An item by its number, from 0 on.
     Item(u16),
+    /// A column by its number, from 0 on, through the left table and then the right one.
     Column(u16),
 }
 
@@ -48,6 +55,7 @@ pub enum SortBy {
 #[derive(Clone, Copy, Debug, PartialEq, Eq)]
 pub struct Sort {
     pub by: SortBy,
+    /// Whether DESC is written, so that the greatest comes first.
     pub descending: bool,
 }
 
@@ -62,8 +70,11 @@ pub struct BoundSelect {
     pub grouped: bool,
     /// The columns of GROUP BY. One that is written again is left out.
     pub group: ColumnNoList,
+    /// 1 to [`geo_base::limits::MAX_LINE_CELLS`] items, from left to right; `*` is one for each column.
     pub items: ItemList,
+    /// What ORDER BY names, from left to right, and nothing where it is missing.
     pub order: SortList,
+    /// How many lines LIMIT keeps at most; `None` where it is missing.
     pub limit: Option<u64>,
 }
 
@@ -115,5 +126,6 @@ pub enum Bound {
     Insert(BoundInsert),
     Update(BoundUpdate),
     Delete(BoundDelete),
+    /// A query whose plan is asked for, and not its rows.
     Explain(BoundSelect),
 }

@@ -4,13 +4,14 @@ ghost use Rattle.geo_base.specs.Results.{Gives};
 ghost use Rattle.sql_bind.specs.Expressions as spec;
 
 use crate::fault::BindFault;
-use crate::names::column_of;
+use crate::names::column_meant;
 use crate::scope::Scope;
-use crate::types::{comparison, literal_type, one_operand, takes, two_operands};
 use geo_base::{Cell, Duplicate};
 use geo_schema::Schema;
 use sql_ast::{Ast, AstOp, ColRef};
-use sql_expr::{Expr, Op, Test, ValueType};
+use sql_expr::{
+    Expr, Op, Test, ValueType, compared_operands, literal_type, one_operand, takes, two_operands,
+};
 use sqlite_items::Boxed;
 use std::alloc::Global;
 
@@ -53,7 +54,7 @@ fn column(
 ) -> Result<Typed, BindFault>
     ensures { Gives BindFault.NoMemory (λ t. t) result (spec.column schema.now scope.now column.now) }
 {
-    let found = column_of(alloc, schema, scope, column)?;
+    let found = column_meant(alloc, schema, scope, column)?;
     of_type(alloc, Expr::Col(found.place), found.of)
 }
 
@@ -67,7 +68,7 @@ fn calculation(alloc: Global, op: Op, a: Typed, b: Typed) -> Result<Typed, BindF
 fn compared(alloc: Global, test: Test, a: Typed, b: Typed) -> Result<Typed, BindFault>
     ensures { Gives BindFault.NoMemory (λ t. t) result (spec.compared test a b) }
 {
-    let of = comparison(a.of, b.of);
+    let of = compared_operands(a.of, b.of);
     operator(alloc, of, Expr::Cmp(test, a.expr, b.expr))
 }
 
@@ -178,14 +179,14 @@ pub(crate) fn taken_by(
 }
 
 /// An expression of any type.
-#[tactic(auto, unfolding(crate::specs::Expressions::any_of))]
-pub(crate) fn any_of(
+#[tactic(auto, unfolding(crate::specs::Expressions::of_any_type))]
+pub(crate) fn of_any_type(
     alloc: Global,
     schema: &Schema,
     scope: &Scope,
     ast: &Ast,
 ) -> Result<Expr, BindFault>
-    ensures { Gives BindFault.NoMemory (λ e. e) result (spec.any_of schema.now scope.now ast.now) }
+    ensures { Gives BindFault.NoMemory (λ e. e) result (spec.of_any_type schema.now scope.now ast.now) }
 {
     let bound = expression_of(alloc, schema, scope, ast)?;
     Ok(bound.expr.into_inner())

@@ -81,7 +81,11 @@ fn listed_columns(alloc: Global, columns: &[ColumnDef], names: &[Txt]) -> Result
 }
 
 /// The types of the columns at the places.
-fn types_of(alloc: Global, columns: &[ColumnDef], places: &[u8]) -> Result<Vec<ValueType>, NoMemory>
+fn place_types(
+    alloc: Global,
+    columns: &[ColumnDef],
+    places: &[u8],
+) -> Result<Vec<ValueType>, NoMemory>
     requires { All (λ place. place < length columns.now) places.now }
     ensures { IfOk result (λ v. v.items ≡ map (type_at columns.now) places.now) }
 {
@@ -158,7 +162,7 @@ fn rows_of(
     requires { All (λ place. place < length columns.now) places.now }
     ensures { Gives BindFault.NoMemory (λ v. v.items) result (spec.rows_of schema.now columns.now places.now rows.now) }
 {
-    let types = types_of(alloc, columns, places)?;
+    let types = place_types(alloc, columns, places)?;
     typed_rows(alloc, schema, types.as_slice(), rows)
 }
 

@@ -8,7 +8,7 @@ ghost use Rattle.sql_bind.specs.Orders.{written_items};
 ghost use Rattle.sql_bind.specs.Steps.{each_behind};
 
 use crate::bound::Item;
-use crate::expressions::{any_of, taken_by};
+use crate::expressions::{of_any_type, taken_by};
 use crate::fault::BindFault;
 use crate::names::is_allowed;
 use crate::scope::{Scope, known_columns};
@@ -52,20 +52,20 @@ fn item_of(
     ensures { Gives BindFault.NoMemory (λ i. i) result (spec.item_of schema.now scope.now plain.now value.now) }
 {
     match value {
-        AstValue::Plain(ast) => Ok(Item::Plain(any_of(alloc, schema, plain, ast)?)),
+        AstValue::Plain(ast) => Ok(Item::Plain(of_any_type(alloc, schema, plain, ast)?)),
         AstValue::CountAll => Ok(Item::CountAll),
-        AstValue::Count(ast) => Ok(Item::Count(any_of(alloc, schema, scope, ast)?)),
+        AstValue::Count(ast) => Ok(Item::Count(of_any_type(alloc, schema, scope, ast)?)),
         AstValue::Sum(ast) => {
             let number = taken_by(alloc, ValueType::Int, schema, scope, ast)?;
             Ok(Item::Sum(number))
         }
-        AstValue::Min(ast) => Ok(Item::Min(any_of(alloc, schema, scope, ast)?)),
-        AstValue::Max(ast) => Ok(Item::Max(any_of(alloc, schema, scope, ast)?)),
+        AstValue::Min(ast) => Ok(Item::Min(of_any_type(alloc, schema, scope, ast)?)),
+        AstValue::Max(ast) => Ok(Item::Max(of_any_type(alloc, schema, scope, ast)?)),
     }
 }
 
 /// The items that are written, from left to right.
-fn written_items(
+fn written_list(
     alloc: Global,
     schema: &Schema,
     scope: &Scope,
@@ -138,7 +138,7 @@ fn listed(
 {
     match items {
         Items::All => all_items(alloc, schema, plain),
-        Items::List(list) => written_items(alloc, schema, scope, plain, list.items()),
+        Items::List(list) => written_list(alloc, schema, scope, plain, list.items()),
     }
 }
 

@@ -19,7 +19,6 @@ mod orders;
 mod scope;
 mod select;
 mod statement;
-mod types;
 mod update;
 
 pub use bound::{
@@ -28,6 +27,7 @@ pub use bound::{
 };
 pub use fault::BindFault;
 pub use laws::{
-    bound_statements_are_sound, rows_have_the_types_of_columns, want_of_memory_is_no_refusal,
+    bound_statements_are_sound, bound_values_are_of_their_columns_types,
+    rows_have_the_types_of_columns, want_of_memory_is_no_refusal,
 };
 pub use statement::bind;

@@ -1,8 +1,8 @@
 //! What written columns mean.
-ghost use Rattle.std.specs.Prelude.{◌≡◌, ◌≤◌, ◌<◌, length, nat_eq, IfOk, IfSome};
-ghost use Rattle.std.specs.List.{list_any};
+ghost use Rattle.std.specs.Prelude.{◌≡◌, ◌≤◌, ◌<◌, length, IfOk, IfSome};
 ghost use Rattle.geo_base.specs.Results.{Gives};
 ghost use Rattle.geo_base.specs.declared.limits.TheConstants.{MAX_COLUMNS};
+ghost use Rattle.geo_schema.specs.Rows.{is_in};
 ghost use Rattle.sql_bind.specs.Names as names;
 
 use crate::bound::ColumnNoList;
@@ -151,7 +151,7 @@ fn found_of(
 
 /// Whether the column is one of the list's.
 pub(crate) fn contains(places: &[u16], place: u16) -> bool
-    ensures { result ≡ list_any (λ p. nat_eq p place) places.now }
+    ensures { result ≡ is_in places.now place }
 {
     places.iter().any(|p| *p == place)
 }
@@ -169,14 +169,14 @@ pub(crate) fn is_allowed(group: &Option<ColumnNoList>, place: u16) -> bool
 /// The column that is meant, which has to be one that may stand there. Compares its name with that of each
 /// column of the tables, and its number with that of each column of GROUP BY, of which there are at most as
 /// many as columns.
-#[tactic(auto, unfolding(crate::specs::Names::column_of))]
-pub(crate) fn column_of(
+#[tactic(auto, unfolding(crate::specs::Names::column_meant))]
+pub(crate) fn column_meant(
     alloc: Global,
     schema: &Schema,
     scope: &Scope,
     column: &ColRef,
 ) -> Result<Found, BindFault>
-    ensures { Gives BindFault.NoMemory (λ f. f) result (names.column_of schema.now scope.now column.now) }
+    ensures { Gives BindFault.NoMemory (λ f. f) result (names.column_meant schema.now scope.now column.now) }
 {
     let found = found_of(alloc, schema, scope, column)?;
     if !is_allowed(&scope.group, found.place) {

@@ -7,7 +7,7 @@ ghost use Rattle.sql_bind.specs.Orders as spec;
 
 use crate::bound::{Sort, SortBy};
 use crate::fault::BindFault;
-use crate::names::column_of;
+use crate::names::column_meant;
 use crate::scope::Scope;
 use geo_base::{Duplicate, Txt};
 use geo_schema::Schema;
@@ -75,7 +75,7 @@ fn item_or_column(
     match item {
         Some(place) => Ok(SortBy::Item(place)),
         None => {
-            let found = column_of(alloc, schema, plain, column)?;
+            let found = column_meant(alloc, schema, plain, column)?;
             Ok(SortBy::Column(found.place))
         }
     }

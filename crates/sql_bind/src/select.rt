@@ -7,7 +7,7 @@ use crate::bound::{BoundSelect, ColumnNoList, ExprList, ItemList, SortList, Tabl
 use crate::conditions::{condition_of, filter_of};
 use crate::fault::BindFault;
 use crate::items::{has_aggregate, items_of};
-use crate::names::{column_of, contains};
+use crate::names::{column_meant, contains};
 use crate::orders::{order_of, written_items};
 use crate::scope::{Known, Scope, known_of};
 use geo_base::{Duplicate, NoMemory, TableNo};
@@ -17,12 +17,12 @@ use sql_expr::Expr;
 use std::alloc::Global;
 
 /// The table of JOIN.
-fn joined_of(
+fn second_of(
     alloc: Global,
     schema: &Schema,
     join: &Option<JoinRef>,
 ) -> Result<Option<Known>, BindFault>
-    ensures { Gives BindFault.NoMemory (λ k. k) result (spec.joined_of schema.now join.now) }
+    ensures { Gives BindFault.NoMemory (λ k. k) result (spec.second_of schema.now join.now) }
 {
     match join {
         None => Ok(None),
@@ -30,7 +30,7 @@ fn joined_of(
     }
 }
 
-/// Two tables are known by different names.
+/// That two tables are known by different names.
 fn different(alloc: Global, left: &Known, right: &Option<Known>) -> Result<(), BindFault>
     ensures { Gives BindFault.NoMemory (λ u. u) result (spec.different left.now right.now) }
 {
@@ -48,7 +48,7 @@ fn from_of(alloc: Global, schema: &Schema, select: &SelectStmt) -> Result<Scope,
     ensures { Gives BindFault.NoMemory (λ s. s) result (spec.from_of schema.now select.now) }
 {
     let left = known_of(alloc, schema, &select.left)?;
-    let right = joined_of(alloc, schema, &select.right)?;
+    let right = second_of(alloc, schema, &select.right)?;
     different(alloc, &left, &right)?;
     Ok(Scope {
         left: Some(left),
@@ -110,7 +110,7 @@ fn group_of(
 {
     let mut group = Vec::new(alloc);
     for column in columns {
-        let found = column_of(alloc, schema, scope, column)?;
+        let found = column_meant(alloc, schema, scope, column)?;
         push_once(&mut group, found.place)?;
     }
     Ok(group)

@@ -33,8 +33,10 @@ fn bound_of(alloc: Global, statement: &Statement, schema: &Schema) -> Result<Bou
 
 /// The statement with its names and types resolved, or the first refusal in the order of binding. It has to
 /// be one that reads or writes tables: the others have nothing to bind. The time is linear in the statement,
-/// where each column is looked up among those of the tables, and each name of ORDER BY among the items; the
-/// stack goes as deep as its expressions.
+/// where the name of a table is compared with that of each table, that of a column with each column of its
+/// tables, a column of GROUP BY, of the list of INSERT or of SET with those before it, of which there are at
+/// most as many as columns, and a name of ORDER BY with that of each item. The stack goes as deep as its
+/// expressions.
 #[tactic(auto, using(crate::proofs::Sound::answer_sound))]
 pub fn bind(alloc: Global, statement: &Statement, schema: &Schema) -> Result<Bound, BindFault>
     requires { is_of_tables statement.now ≡ true }

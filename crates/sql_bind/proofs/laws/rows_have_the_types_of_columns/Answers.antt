@@ -1,8 +1,8 @@
-use Rattle.sql_bind.proofs.Rows.{row_types, pair_types}
+use Rattle.sql_bind.proofs.Rows.{one_table, two_tables}
 use Rattle.sql_bind.proofs.laws.rows_have_the_types_of_columns.Goals as goal
 
 pub returns-clause-rows : goal.returns-clause-rows
-returns-clause-rows c = row_types
+returns-clause-rows c = one_table
 
 pub returns-clause-pairs : goal.returns-clause-pairs
-returns-clause-pairs c = pair_types
+returns-clause-pairs c = two_tables

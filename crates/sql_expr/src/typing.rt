@@ -1,12 +1,12 @@
-//! Which types operators take.
+//! Which operands operators take, and what type they give.
 ghost use Rattle.std.specs.Prelude.{◌≡◌};
 ghost use Rattle.sql_expr.specs.Types as types;
 
+use crate::value_type::ValueType;
 use geo_base::Cell;
-use sql_expr::ValueType;
 
 /// The type of a literal.
-pub(crate) fn literal_type(literal: &Cell) -> ValueType
+pub fn literal_type(literal: &Cell) -> ValueType
     ensures { result ≡ types.literal_type literal.now }
 {
     match literal {
@@ -18,7 +18,7 @@ pub(crate) fn literal_type(literal: &Cell) -> ValueType
 }
 
 /// Whether an operand of the second type may stand where the first is wanted.
-pub(crate) fn takes(wanted: ValueType, of: ValueType) -> bool
+pub fn takes(wanted: ValueType, of: ValueType) -> bool
     ensures { result ≡ types.takes wanted of }
 {
     match (wanted, of) {
@@ -30,15 +30,15 @@ pub(crate) fn takes(wanted: ValueType, of: ValueType) -> bool
     }
 }
 
-/// What an operator gives whose operand is to be of the type.
-pub(crate) fn one_operand(wanted: ValueType, a: ValueType) -> Option<ValueType>
+/// The type that an operator gives whose operand is to be of the wanted one; `None` where it doesn't take it.
+pub fn one_operand(wanted: ValueType, a: ValueType) -> Option<ValueType>
     ensures { result ≡ types.one_operand wanted a }
 {
     if takes(wanted, a) { Some(wanted) } else { None }
 }
 
-/// What an operator gives whose two operands are to be of the type.
-pub(crate) fn two_operands(wanted: ValueType, a: ValueType, b: ValueType) -> Option<ValueType>
+/// The same of an operator with two operands.
+pub fn two_operands(wanted: ValueType, a: ValueType, b: ValueType) -> Option<ValueType>
     ensures { result ≡ types.two_operands wanted a b }
 {
     if takes(wanted, a) && takes(wanted, b) {
@@ -48,8 +48,8 @@ pub(crate) fn two_operands(wanted: ValueType, a: ValueType, b: ValueType) -> Opt
     }
 }
 
-/// What a comparison gives.
-pub(crate) fn comparison(a: ValueType, b: ValueType) -> Option<ValueType>
+/// The type that a comparison of two operands gives; `None` where it doesn't take them together.
+pub fn compared_operands(a: ValueType, b: ValueType) -> Option<ValueType>
     ensures { result ≡ types.comparison a b }
 {
     if takes(a, b) || takes(b, a) {

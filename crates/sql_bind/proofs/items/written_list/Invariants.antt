@@ -2,7 +2,7 @@
 use Rattle.std.proofs.Common.{◌≡◌, drop, length}
 use Rattle.sql_bind.specs.Items.{item_of, written_list}
 use Rattle.sql_bind.specs.Steps.{each_behind}
-use Rattle.sql_bind.proofs.items.written_items.Given as goal
+use Rattle.sql_bind.proofs.items.written_list.Given as goal
 
 abbrev pub invariant-loop-item : goal.invariant-loop-item
 invariant-loop-item l =

@@ -1,0 +1,127 @@
+//! Which types operators take together, and what they give: `i` is the type of numbers, `t` that of texts, `b`
+//! that of truths, `a` that of NULL, and `-` none.
+use geo_base::{Cell, Txt};
+use sql_expr::{ValueType, compared_operands, literal_type, one_operand, takes, two_operands};
+use std::alloc::Global;
+use std::test::Fail;
+
+const LETTERS: [char; 4] = ['i', 't', 'b', 'a'];
+
+fn type_of(letter: char) -> ValueType {
+    match letter {
+        'i' => ValueType::Int,
+        't' => ValueType::Text,
+        'b' => ValueType::Truth,
+        _ => ValueType::Any,
+    }
+}
+
+fn letter(of: Option<ValueType>) -> char {
+    match of {
+        Some(ValueType::Int) => 'i',
+        Some(ValueType::Text) => 't',
+        Some(ValueType::Truth) => 'b',
+        Some(ValueType::Any) => 'a',
+        None => '-',
+    }
+}
+
+/// Two types; then what arithmetic, what AND or OR, and what a comparison gives of them.
+const PAIRS: &str = "\
+ii i-b
+it ---
+ib ---
+ia i-b
+ti ---
+tt --b
+tb ---
+ta --b
+bi ---
+bt ---
+bb -bb
+ba -bb
+ai i-b
+at --b
+ab -bb
+aa ibb
+";
+
+fn push_pair(out: &mut String, a: char, b: char) -> Result<(), Fail> {
+    let numbers = letter(two_operands(ValueType::Int, type_of(a), type_of(b)));
+    let truths = letter(two_operands(ValueType::Truth, type_of(a), type_of(b)));
+    let compared = letter(compared_operands(type_of(a), type_of(b)));
+    for piece in [a, b, ' ', numbers, truths, compared, '\n'] {
+        out.push(piece)?;
+    }
+    Ok(())
+}
+
+fn pairs(alloc: Global) -> Result<String, Fail> {
+    let mut out = String::new(alloc);
+    for a in LETTERS {
+        for b in LETTERS {
+            push_pair(&mut out, a, b)?;
+        }
+    }
+    Ok(out)
+}
+
+#[test]
+fn two_operands_are_of_one_type(rt: HostRuntime) -> Result<(), Fail> {
+    assert_eq!(rt; pairs(rt.alloc())?.as_str(), PAIRS);
+    Ok(())
+}
+
+/// A type; what a minus and what NOT gives of it; and whether it may stand where numbers, texts and truths are
+/// wanted.
+const ONES: &str = "\
+i i- yes no no
+t -- no yes no
+b -b no no yes
+a ib yes yes yes
+";
+
+fn push_one(out: &mut String, a: char) -> Result<(), Fail> {
+    let number = letter(one_operand(ValueType::Int, type_of(a)));
+    let truth = letter(one_operand(ValueType::Truth, type_of(a)));
+    for piece in [a, ' ', number, truth] {
+        out.push(piece)?;
+    }
+    for wanted in [ValueType::Int, ValueType::Text, ValueType::Truth] {
+        out.push_str(if takes(wanted, type_of(a)) {
+            " yes"
+        } else {
+            " no"
+        })?;
+    }
+    Ok(out.push('\n')?)
+}
+
+fn ones(alloc: Global) -> Result<String, Fail> {
+    let mut out = String::new(alloc);
+    for a in LETTERS {
+        push_one(&mut out, a)?;
+    }
+    Ok(out)
+}
+
+#[test]
+fn one_operand_is_of_the_wanted_type(rt: HostRuntime) -> Result<(), Fail> {
+    assert_eq!(rt; ones(rt.alloc())?.as_str(), ONES);
+    Ok(())
+}
+
+#[test]
+fn literals_are_of_their_types(rt: HostRuntime) -> Result<(), Fail> {
+    let alloc = rt.alloc();
+    let cells = [
+        Cell::Int(0),
+        Cell::Text(Txt::new(alloc, "")?),
+        Cell::Truth(false),
+        Cell::Null,
+    ];
+    for (place, want) in LETTERS.into_iter().enumerate() {
+        assert_eq!(rt; letter(Some(literal_type(&cells[place]))), want);
+    }
+    Ok(())
+}
