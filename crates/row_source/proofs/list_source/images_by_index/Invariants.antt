@@ -1,0 +1,8 @@
+use Rattle.std.proofs.Common.{◌≡◌, map, take}
+use Rattle.std.specs.List.{filter}
+use Rattle.row_source.specs.Lists.{table_of}
+use Rattle.row_source.specs.Sources.{images, is_by_index}
+use Rattle.row_source.proofs.list_source.images_by_index.Given as goal
+
+abbrev pub invariant-loop-at : goal.invariant-loop-at
+invariant-loop-at l = map (λ image. image.now) l.found.items ≡ images (filter (is_by_index l.index l.table l.range) (table_of (take l.at-index l.rows)))

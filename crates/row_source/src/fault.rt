@@ -1,0 +1,35 @@
+ghost use Rattle.std.specs.Prelude.{◌≡◌};
+ghost use Rattle.row_source.specs.declared.fault.ExecFault.TheVariants as fault;
+
+use geo_base::{NoMemory, RowId, Txt};
+
+/// Why a statement was refused while it ran.
+#[derive(Debug, Drop, PartialEq, Eq)]
+pub enum ExecFault {
+    /// A row is inserted that there is already, or that the statement has inserted before.
+    Duplicate(RowId),
+    /// The column with this name, which is not null or of the key, would get NULL.
+    NullNotAllowed(Txt),
+    /// The whole number that an operator or a sum gives is no `i64`.
+    Overflow,
+    /// A number is divided by 0.
+    DivideByZero,
+    /// The column with this name would get a text of more bytes than it takes.
+    TextTooLong(Txt),
+    /// A query has more than 100,000 lines, after LIMIT.
+    ResultTooLong,
+    /// The transaction would have more than 1,024 rows.
+    TooManyRows,
+    /// The transaction's spelled changes would have more than 1,048,576 bytes.
+    TooLarge,
+    /// There was no memory. It says nothing of the statement.
+    NoMemory,
+}
+
+impl From<NoMemory> for ExecFault {
+    ghost from_gives = { λ _ e. e ≡ fault.NoMemory };
+
+    fn from(_e: NoMemory) -> ExecFault {
+        ExecFault::NoMemory
+    }
+}

@@ -1,0 +1,25 @@
+//! Ranges as texts: two edges with ` .. ` between them.
+use crate::cells::cells_of;
+use geo_schema::{CellList, Edge, KeyRange};
+use std::alloc::Global;
+use std::test::Fail;
+
+/// The edge of a text: `[` before cells that are within, `(` before cells that are outside, or else no bound.
+fn edge_of(alloc: Global, text: &str) -> Result<Edge, Fail> {
+    if let Some(words) = text.strip_prefix('[') {
+        return Ok(Edge::Incl(CellList::new(cells_of(alloc, words)?)));
+    }
+    match text.strip_prefix('(') {
+        Some(words) => Ok(Edge::Excl(CellList::new(cells_of(alloc, words)?))),
+        None => Ok(Edge::Open),
+    }
+}
+
+/// The range of a text.
+pub fn range_of(alloc: Global, text: &str) -> Result<KeyRange, Fail> {
+    let (low, high) = text.split_once(" .. ").ok_or("a range without edges")?;
+    Ok(KeyRange {
+        low: edge_of(alloc, low)?,
+        high: edge_of(alloc, high)?,
+    })
+}
