@@ -1,0 +1,9 @@
+pub mod Changes
+pub mod Chunks
+pub mod Flats
+pub mod Lists
+pub mod Orders
+pub mod Pages
+pub mod Rooms
+pub mod Shelves
+pub mod Steps

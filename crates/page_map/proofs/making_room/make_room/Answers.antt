@@ -1,0 +1,35 @@
+use Rattle.std.proofs.Common.{◌≡◌, ◌+◌, ap, sym, ◌∙◌, subst}
+use Rattle.std.specs.List.{flat_map}
+use Rattle.page_map.specs.inner.Cuts.{IsInChunk}
+use Rattle.page_map.specs.inner.Chunks.{shared_entries}
+use Rattle.page_map.proofs.Rooms.{halved_pairs, in_first, in_last}
+use Rattle.page_map.proofs.Shelves.{shelf_halved}
+use Rattle.page_map.proofs.making_room.make_room.Goals as goal
+
+pub returns-then-above-clause-whole : goal.returns-then-above-clause-whole
+returns-then-above-clause-whole g c =
+    shelf_halved g.C.Chunk.entries g.C.Chunk.sound c.args.shelf.now c.put_halves.new.shelf c.place_for-place.result c.index-2.result.now c.in_ok-first.first c.in_ok-first.last c.requires.whole c.place_for-place.ensures.within c.index-2.ensures c.in_ok-first.ensures.pairs c.in_ok-first.ensures.first c.in_ok-first.ensures.last c.in_ok-put_halves.ensures.count c.in_ok-put_halves.ensures.ok
+
+pub returns-then-above-clause-pairs : goal.returns-then-above-clause-pairs
+returns-then-above-clause-pairs g c =
+    ap (flat_map (shared_entries g.C.Chunk.entries)) c.in_ok-put_halves.ensures.ok
+    ∙ halved_pairs (shared_entries g.C.Chunk.entries) c.args.shelf.now.chunks.items c.place_for-place.result c.index-2.result.now c.in_ok-first.first c.in_ok-first.last c.place_for-place.ensures.within c.index-2.ensures c.in_ok-first.ensures.pairs
+
+pub returns-then-above-clause-place : goal.returns-then-above-clause-place
+returns-then-above-clause-place g c =
+    subst (λ l. IsInChunk g.K.Ord.cmp (shared_entries g.C.Chunk.entries) c.args.key.now l c.place_for-place.result) (sym c.in_ok-put_halves.ensures.ok)
+    (in_first g.K.Ord.cmp g.met.K.Ord.total (shared_entries g.C.Chunk.entries) c.args.key.now c.args.shelf.now.chunks.items c.requires.rising c.place_for-place.result c.index-2.result.now c.in_ok-first.first c.in_ok-first.last c.place_for-place.ensures c.index-2.ensures c.in_ok-first.ensures.pairs (sym c.begins_above-above.ensures ∙ c.if-above.true))
+
+pub returns-clause-whole : goal.returns-clause-whole
+returns-clause-whole g c =
+    shelf_halved g.C.Chunk.entries g.C.Chunk.sound c.args.shelf.now c.put_halves.new.shelf c.place_for-place.result c.index-2.result.now c.in_ok-first.first c.in_ok-first.last c.requires.whole c.place_for-place.ensures.within c.index-2.ensures c.in_ok-first.ensures.pairs c.in_ok-first.ensures.first c.in_ok-first.ensures.last c.in_ok-put_halves.ensures.count c.in_ok-put_halves.ensures.ok
+
+pub returns-clause-pairs : goal.returns-clause-pairs
+returns-clause-pairs g c =
+    ap (flat_map (shared_entries g.C.Chunk.entries)) c.in_ok-put_halves.ensures.ok
+    ∙ halved_pairs (shared_entries g.C.Chunk.entries) c.args.shelf.now.chunks.items c.place_for-place.result c.index-2.result.now c.in_ok-first.first c.in_ok-first.last c.place_for-place.ensures.within c.index-2.ensures c.in_ok-first.ensures.pairs
+
+pub returns-clause-place : goal.returns-clause-place
+returns-clause-place g c =
+    subst (λ l. IsInChunk g.K.Ord.cmp (shared_entries g.C.Chunk.entries) c.args.key.now l (c.place_for-place.result + 1)) (sym c.in_ok-put_halves.ensures.ok)
+    (in_last g.K.Ord.cmp g.met.K.Ord.total (shared_entries g.C.Chunk.entries) c.args.key.now c.args.shelf.now.chunks.items c.requires.rising c.place_for-place.result c.index-2.result.now c.in_ok-first.first c.in_ok-first.last c.place_for-place.ensures c.index-2.ensures c.in_ok-first.ensures.pairs c.in_ok-first.ensures.last.some (sym c.begins_above-above.ensures ∙ c.if-above.false))

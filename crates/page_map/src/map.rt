@@ -1,0 +1,147 @@
+//! The map itself.
+ghost use Rattle.std.specs.Prelude.{◌≡◌, [], length, IfOk, OnOk, OnErr, option_copied};
+ghost use Rattle.std.specs.Option.{option_map};
+ghost use Rattle.std.specs.List.{slice_get};
+ghost use Rattle.page_map.specs.Pairs.{IsRising, found_at, put_in, without, place_in};
+
+use crate::chunk::Chunk;
+use crate::page::Page;
+use crate::root::{set_root, take_root};
+use crate::shelf::Shelf;
+use geo_base::{Duplicate, NoMemory};
+use std::alloc::Global;
+use std::marker::Model;
+use std::sync::Arc;
+
+/// An ordered map whose forks don't change with it. Contracts see the list of its pairs, by rising keys.
+///
+/// A fork shares everything with its source until one of them changes. A search takes as many comparisons as
+/// the number of pairs has binary digits, about, and goes from a shelf's chunk down to its first page for each.
+#[derive(Drop)]
+pub struct PageMap<K: Ord, V> {
+    alloc: Global,
+    root: Option<Arc<Shelf<Shelf<Shelf<Page<K, V>>>>>>,
+}
+
+impl<K: Ord, V> Model for PageMap<K, V> {
+    ghost use Rattle.std.specs.Prelude.{List};
+    ghost use Rattle.std.specs.Coded.{coded_list, coded×};
+
+    ghost Value = { List (K × V) };
+
+    ghost coded = { coded_list (coded× K.code V.code) };
+
+    ghost use Rattle.page_map.specs.Pairs.{IsRising};
+    ghost use Rattle.page_map.specs.inner.Chunks.{root_entries, IsRoot};
+
+    ghost view = { λ m. root_entries m.root };
+
+    ghost invariant = { λ m. IsRoot m.root × IsRising K.cmp (root_entries m.root) };
+}
+
+impl<K: Ord + Duplicate + Drop, V: Duplicate + Drop> PageMap<K, V> {
+    /// The map without pairs. Takes no memory.
+    pub fn empty(alloc: Global) -> PageMap<K, V>
+        ensures { result ≡ [] }
+    {
+        PageMap { alloc, root: None }
+    }
+
+    /// That the keys rise, and none comes twice. Does nothing when it runs.
+    pub fn rises(&self)
+        ensures { IsRising K.cmp self.now }
+    {
+        let _root = &self.root;
+    }
+
+    /// How many pairs there are. Takes no memory, and one step.
+    pub fn len(&self) -> u64
+        ensures { result ≡ length self.now }
+    {
+        match &self.root {
+            Some(root) => root.count(),
+            None => 0,
+        }
+    }
+
+    /// The value at the key. Takes no memory, and one search.
+    pub fn get(&self, key: &K) -> Option<&V>
+        ensures { option_copied result ≡ found_at K.cmp key.now self.now }
+    {
+        match &self.root {
+            Some(root) => root.get(key),
+            None => None,
+        }
+    }
+
+    /// How many keys are below the key. Takes no memory, one search, and a look at the count of each chunk that
+    /// stands before it in its shelf: at most 128 in each of three shelves, and more in the uppermost past some
+    /// millions of pairs.
+    pub fn place_of(&self, key: &K) -> u64
+        ensures { result ≡ place_in K.cmp key.now self.now }
+    {
+        match &self.root {
+            Some(root) => root.place_of(key),
+            None => 0,
+        }
+    }
+
+    /// The pair at the place, counted from 0. Takes no memory, and as many looks at counts as [`place_of`].
+    ///
+    /// [`place_of`]: PageMap::place_of
+    pub fn at(&self, place: u64) -> Option<(&K, &V)>
+        ensures { option_map (λ pair. (pair.0.now, pair.1.now)) result ≡ slice_get self.now place }
+    {
+        match &self.root {
+            Some(root) => {
+                if place < root.count() {
+                    return Some(root.at(place));
+                }
+                None
+            }
+            None => None,
+        }
+    }
+
+    /// Puts the value at the key, and gives the one that was there. An error leaves the map as it was.
+    ///
+    /// Takes a search and moves within one page, where no fork shares it. What a fork shares is copied first, on
+    /// the way to the key alone: one page with its keys and values, and of three shelves the pointers to their
+    /// chunks. A page of 64 pairs, or a shelf of 128 chunks, is halved into two copies on the way.
+    pub fn set(&mut self, key: K, value: V) -> Result<Option<V>, NoMemory>
+        ensures old { IfOk result (λ old. old ≡ found_at K.cmp key self.old) }
+        ensures new { OnOk result (self.new ≡ put_in K.cmp key value self.old) }
+        ensures err { OnErr result (self.new ≡ self.old) }
+    {
+        set_root(&mut self.root, self.alloc, key, value)
+    }
+
+    /// Takes the pair of the key out, and gives its value. An error leaves the map as it was.
+    ///
+    /// Costs what [`set`] costs without halving, also where the key isn't there.
+    ///
+    /// [`set`]: PageMap::set
+    pub fn take(&mut self, key: &K) -> Result<Option<V>, NoMemory>
+        ensures old { IfOk result (λ old. old ≡ found_at K.cmp key.now self.old) }
+        ensures new { OnOk result (self.new ≡ without K.cmp key.now self.old) }
+        ensures err { OnErr result (self.new ≡ self.old) }
+    {
+        take_root(&mut self.root, self.alloc, key)
+    }
+
+    /// A map of the same pairs, which doesn't change when this one does. Takes one step: one pointer is shared.
+    pub fn fork(&self) -> Result<PageMap<K, V>, NoMemory>
+        ensures { IfOk result (λ fork. fork ≡ self.now) }
+    {
+        match &self.root {
+            Some(root) => Ok(PageMap {
+                alloc: self.alloc,
+                root: Some(Arc::try_clone(root)?),
+            }),
+            None => Ok(PageMap {
+                alloc: self.alloc,
+                root: None,
+            }),
+        }
+    }
+}
