@@ -50,10 +50,13 @@ fn push_pair(out: &mut String, a: char, b: char) -> Result<(), Fail> {
     let numbers = letter(two_operands(ValueType::Int, type_of(a), type_of(b)));
     let truths = letter(two_operands(ValueType::Truth, type_of(a), type_of(b)));
     let compared = letter(compared_operands(type_of(a), type_of(b)));
-    for piece in [a, b, ' ', numbers, truths, compared, '\n'] {
-        out.push(piece)?;
-    }
-    Ok(())
+    out.push(a)?;
+    out.push(b)?;
+    out.push(' ')?;
+    out.push(numbers)?;
+    out.push(truths)?;
+    out.push(compared)?;
+    Ok(out.push('\n')?)
 }
 
 fn pairs(alloc: Global) -> Result<String, Fail> {
@@ -81,19 +84,18 @@ b -b no no yes
 a ib yes yes yes
 ";
 
+fn push_answer(out: &mut String, yes: bool) -> Result<(), Fail> {
+    Ok(out.push_str(if yes { " yes" } else { " no" })?)
+}
+
 fn push_one(out: &mut String, a: char) -> Result<(), Fail> {
-    let number = letter(one_operand(ValueType::Int, type_of(a)));
-    let truth = letter(one_operand(ValueType::Truth, type_of(a)));
-    for piece in [a, ' ', number, truth] {
-        out.push(piece)?;
-    }
-    for wanted in [ValueType::Int, ValueType::Text, ValueType::Truth] {
-        out.push_str(if takes(wanted, type_of(a)) {
-            " yes"
-        } else {
-            " no"
-        })?;
-    }
+    out.push(a)?;
+    out.push(' ')?;
+    out.push(letter(one_operand(ValueType::Int, type_of(a))))?;
+    out.push(letter(one_operand(ValueType::Truth, type_of(a))))?;
+    push_answer(out, takes(ValueType::Int, type_of(a)))?;
+    push_answer(out, takes(ValueType::Text, type_of(a)))?;
+    push_answer(out, takes(ValueType::Truth, type_of(a)))?;
     Ok(out.push('\n')?)
 }
 
@@ -111,17 +113,22 @@ fn one_operand_is_of_the_wanted_type(rt: HostRuntime) -> Result<(), Fail> {
     Ok(())
 }
 
+fn push_literal(out: &mut String, literal: &Cell) -> Result<(), Fail> {
+    Ok(out.push(letter(Some(literal_type(literal))))?)
+}
+
+fn literals(alloc: Global) -> Result<String, Fail> {
+    let mut out = String::new(alloc);
+    let text = Cell::Text(Txt::new(alloc, "")?);
+    push_literal(&mut out, &Cell::Int(0))?;
+    push_literal(&mut out, &text)?;
+    push_literal(&mut out, &Cell::Truth(false))?;
+    push_literal(&mut out, &Cell::Null)?;
+    Ok(out)
+}
+
 #[test]
 fn literals_are_of_their_types(rt: HostRuntime) -> Result<(), Fail> {
-    let alloc = rt.alloc();
-    let cells = [
-        Cell::Int(0),
-        Cell::Text(Txt::new(alloc, "")?),
-        Cell::Truth(false),
-        Cell::Null,
-    ];
-    for (place, want) in LETTERS.into_iter().enumerate() {
-        assert_eq!(rt; letter(Some(literal_type(&cells[place]))), want);
-    }
+    assert_eq!(rt; literals(rt.alloc())?.as_str(), "itba");
     Ok(())
 }
