@@ -22,6 +22,11 @@ image_left (Put image) before = Some image
 image_left Remove before = None
 image_left Touch before = before
 
+-- the image of a row with a net laid over it, by what the net has of the row: where that is nothing, the image that was there
+abbrev pub image_over : Option Change → Option RowImage → Option RowImage
+image_over None before = before
+image_over (Some change) before = image_left change before
+
 -- the image of a row after the changes, where it had the given one before them
 abbrev pub image_after : List ChangeOfRow → RowId → Option RowImage → Option RowImage
 image_after [] row image = image

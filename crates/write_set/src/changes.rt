@@ -8,7 +8,7 @@ pub trait Changes {
     /// The epoch that is held for the last change of each row.
     ghost last: { Self → RowId → ℕ };
 
-    /// The epoch that is held for the row's last change, 0 where none is.
+    /// The epoch that is held for the row's last change.
     fn last_change(&self, row: &RowId) -> Epoch
         ensures { result ≡ last self.now row.now };
 }

@@ -7,7 +7,7 @@ use geo_base::{Epoch, RowId, RowImage};
 
 /// The rows as they were after each epoch from a horizon on: all that the upkeep of an index asks of them.
 ///
-/// The versions of rows that a region keeps will implement it. Nothing does so yet.
+/// It is written for the versions of rows that a region keeps.
 pub trait KeptVersions {
     /// The first of the epochs.
     ghost first_kept: { Self → ℕ };

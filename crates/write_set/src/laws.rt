@@ -5,13 +5,13 @@ ghost use Rattle.geo_base.specs.declared.numbers.CandId.{CandId};
 ghost use Rattle.geo_base.specs.declared.outcome.Outcome.{Outcome};
 ghost use Rattle.geo_base.specs.declared.outcome.Outcome.TheVariants.{Beaten};
 ghost use Rattle.write_set.specs.Sets.{ChangeOfRow, Rises, has_row};
-ghost use Rattle.write_set.specs.Net.{IsNet};
+ghost use Rattle.write_set.specs.Net.{IsNet, change_in};
 ghost use Rattle.write_set.specs.inner.Nets.{net_of};
 ghost use Rattle.write_set.specs.declared.row_change.RowChange.{RowChange};
 ghost use Rattle.write_set.specs.Journal.{Journal, Epochs, Placed, IsJournal, batches_at, candidates_of, epochs_of, last_sealed, Extends};
 ghost use Rattle.write_set.specs.Merge.{contenders, id_of, is_beaten_on, last_change, verdict_of, verdicts};
-ghost use Rattle.write_set.specs.Overlay.{image_in};
-ghost use Rattle.write_set.specs.Snapshot.{snap_at, snap_rows};
+ghost use Rattle.write_set.specs.Overlay.{Table, image_in, overlay};
+ghost use Rattle.write_set.specs.Snapshot.{image_over, snap_at, snap_rows};
 ghost use Rattle.write_set.specs.Isolation.{Commits, IsSnapshotIsolated};
 ghost use Rattle.write_set.specs.Rules.{IsLastChange, IsVerdict};
 
@@ -44,6 +44,15 @@ pub fn journals_are_isolated()
 pub fn rows_are_the_snapshot()
     ensures rising { (epochs : Epochs) → Rises (snap_rows epochs) }
     ensures images { (epochs : Epochs) (row : RowId) → image_in (snap_rows epochs) row ≡ snap_at epochs row }
+{}
+
+/// Rows with a net laid over them rise, and a look-up among them answers what the net leaves of the row: the
+/// image that it puts, nothing where it removes the row, and what was there before where it touches the row or
+/// hasn't it.
+pub fn overlays_are_looked_up()
+    ensures rising { (rows : Table) (net : List ChangeOfRow) → Rises rows → Rises (overlay rows net) }
+    ensures images { (rows : Table) (net : List ChangeOfRow) (row : RowId) → Rises rows → Rises net →
+        image_in (overlay rows net) row ≡ image_over (change_in net row) (image_in rows row) }
 {}
 
 /// The net of a set and of changes after it is the one list that has each row once and in rising order, with

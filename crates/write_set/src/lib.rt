@@ -35,8 +35,8 @@ pub use changes::Changes;
 pub use kept_versions::KeptVersions;
 pub use laws::{
     committed_share_no_row, journals_are_isolated, last_changes_are_last,
-    names_are_of_one_candidate, nets_have_last_changes, rows_are_the_snapshot, sealed_epochs_stay,
-    verdicts_are_by_the_rules, winner_is_unbeaten,
+    names_are_of_one_candidate, nets_have_last_changes, overlays_are_looked_up,
+    rows_are_the_snapshot, sealed_epochs_stay, verdicts_are_by_the_rules, winner_is_unbeaten,
 };
 pub use plain::Plain;
 pub use row_change::RowChange;

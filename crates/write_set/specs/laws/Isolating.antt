@@ -32,7 +32,7 @@ row_above row p (q ∷ qs) rise less =
     ap (λ b. b || has_row row (q ∷ qs)) (apart_from_less row p.0 less)
     ∙ row_above row q qs rise.1 (row_cmp_total.trans row p.0 q.0 less rise.0.0)
 
-row_once : (p : ChangeOfRow) (ps : List ChangeOfRow) → Rises (p ∷ ps) → has_row p.0 ps ≡ false
+pub row_once : (p : ChangeOfRow) (ps : List ChangeOfRow) → Rises (p ∷ ps) → has_row p.0 ps ≡ false
 unfolding IsStrictlySortedBy
 row_once p [] rise = refl
 row_once p (q ∷ qs) rise = row_above p.0 q qs rise.1 rise.0.0
@@ -50,7 +50,7 @@ changed_has row (p ∷ ps) h = by (row_eq row p.0) (alters p.1) h (changed_has r
     by true a both rest = refl
     by false a both rest = rest both
 
-not_changed : (row : RowId) (set : List ChangeOfRow) → has_row row set ≡ false → changes_row row set ≡ false
+pub not_changed : (row : RowId) (set : List ChangeOfRow) → has_row row set ≡ false → changes_row row set ≡ false
 not_changed row set none =
     ⊎_elim (λ t. absurd (false≢true (sym none ∙ changed_has row set t))) (λ f. f) (true_or_false (changes_row row set))
 
@@ -61,7 +61,7 @@ left_alone true (Put new) image h = absurd (false≢true (sym h))
 left_alone true Remove image h = absurd (false≢true (sym h))
 left_alone true Touch image h = refl
 
-after_none : (ps : List ChangeOfRow) (row : RowId) (image : Option RowImage) → changes_row row ps ≡ false → image_after ps row image ≡ image
+pub after_none : (ps : List ChangeOfRow) (row : RowId) (image : Option RowImage) → changes_row row ps ≡ false → image_after ps row image ≡ image
 after_none [] row image h = refl
 after_none (p ∷ ps) row image h =
     let both = or_false (row_eq row p.0 && alters p.1) (changes_row row ps) h in
