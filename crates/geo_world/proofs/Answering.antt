@@ -4,15 +4,15 @@ use Rattle.std.proofs.lemmas.Bool.{cond_both, cond-true, cond-false, ltb-true, l
 use Rattle.geo_base.specs.declared.limits.TheConstants.{MAX_AHEAD, SESSIONS_PER_REGION}
 use Rattle.geo_base.specs.declared.row_image.RowImage.{RowImage}
 use Rattle.write_set.specs.Snapshot.{snap_at}
-use Rattle.geo_world.specs.declared.event.Statement.{Statement}
-use Rattle.geo_world.specs.declared.event.Statement.TheVariants.{Insert, Select}
-use Rattle.geo_world.specs.declared.event.Event.{Event}
-use Rattle.geo_world.specs.declared.event.Event.TheVariants.{Sql, Seal, Deliver, Publish, Show}
-use Rattle.geo_world.specs.Script.{IsWithin}
+use Rattle.world_script.specs.declared.event.Statement.{Statement}
+use Rattle.world_script.specs.declared.event.Statement.TheVariants.{Insert, Select}
+use Rattle.world_script.specs.declared.event.Event.{Event}
+use Rattle.world_script.specs.declared.event.Event.TheVariants.{Sql, Seal, Deliver, Publish, Show}
+use Rattle.world_script.specs.Script.{IsWithin}
 use Rattle.geo_world.specs.World.{World, Session, Idle, Pending, Packet, BatchPacket, region_of, sealed_by, open_epoch, published_epochs, session_of, holds}
 use Rattle.geo_world.specs.Step.{Stepped, says, step, sql, run_statement, submit, seal, sealed_world, deliver, deliver_one, arrive, publish, have, kv_row, put_candidate, others, sent_lines}
 use Rattle.geo_world.specs.Lines.{duplicate, seal_ahead, seal_last, batch_sealed, packet_new, packet_known}
-use Rattle.geo_world.specs.Sound.{IsSound}
+use Rattle.geo_world.specs.inner.Sound.{IsSound}
 use Rattle.geo_world.specs.Answers.{IsInserted, IsRun, IsReply, IsSealing, IsDelivery, AreDeliveries, HasAll, next_epoch, published_lines, waiting_lines, IsPublishing, IsAnswer}
 use Rattle.geo_world.proofs.Counting.{count-all, all-counted}
 use Rattle.geo_world.proofs.Moves.{arrived_world, published_world}

@@ -8,17 +8,17 @@ use Rattle.geo_base.specs.declared.row_id.RowId.{RowId}
 use Rattle.write_set.specs.Overlay.{Table, image_in}
 use Rattle.write_set.specs.Snapshot.{snap_at}
 use Rattle.write_set.specs.laws.Tables.{image_snap}
-use Rattle.geo_world.specs.declared.event.Statement.{Statement}
-use Rattle.geo_world.specs.declared.event.Statement.TheVariants.{Insert, Select}
+use Rattle.world_script.specs.declared.event.Statement.{Statement}
+use Rattle.world_script.specs.declared.event.Statement.TheVariants.{Insert, Select}
 use Rattle.geo_world.specs.declared.world.World.{World as Kept}
 use Rattle.geo_world.specs.declared.region.Region.{Region}
 use Rattle.geo_world.specs.declared.session.Session.{Session as KeptSession}
 use Rattle.geo_world.specs.World.{World, Session, Idle, Pending, region_of, published_epochs, session_of}
 use Rattle.geo_world.specs.Step.{Stepped, says, sql, run_statement, submit, show, kv_row, put_candidate, next_ticket}
 use Rattle.geo_world.specs.Lines as lines
-use Rattle.geo_world.specs.Sessions.{session_at}
-use Rattle.geo_world.specs.Regions.{Takes}
-use Rattle.geo_world.specs.Standing.{StandsFor, RegionStandsFor, Makes, session_state}
+use Rattle.geo_world.specs.inner.Sessions.{session_at}
+use Rattle.geo_world.specs.inner.Regions.{Takes}
+use Rattle.geo_world.specs.inner.Standing.{StandsFor, RegionStandsFor, Makes, session_state}
 use Rattle.geo_world.proofs.Spared.{submit-takes}
 use Rattle.geo_world.proofs.Moves.{taken_world}
 use Rattle.geo_world.proofs.Standings.{ChangesOne}

@@ -14,11 +14,11 @@ use Rattle.geo_world.specs.declared.session.Session.{Session as KeptSession}
 use Rattle.geo_world.specs.World.{World, RegionState, Packet, region_of, sealed_by, has_arrived, holds}
 use Rattle.geo_world.specs.Step.{Stepped, says, with_region, deliver, deliver_one}
 use Rattle.geo_world.specs.Lines as lines
-use Rattle.geo_world.specs.Sessions.{session_at}
-use Rattle.geo_world.specs.Arrivals.{batch_in, with_batch}
-use Rattle.geo_world.specs.Regions.{Receives}
-use Rattle.geo_world.specs.Standing.{StandsFor, RegionStandsFor, HoldsArrived, IsCleared, IsAsSealed, Makes, session_state, packet_state}
-use Rattle.geo_world.specs.Sound.{IsSoundPacket}
+use Rattle.geo_world.specs.inner.Sessions.{session_at}
+use Rattle.geo_world.specs.inner.Arrivals.{batch_in, with_batch}
+use Rattle.geo_world.specs.inner.Regions.{Receives}
+use Rattle.geo_world.specs.inner.Standing.{StandsFor, RegionStandsFor, HoldsArrived, IsCleared, IsAsSealed, Makes, session_state, packet_state}
+use Rattle.geo_world.specs.inner.Sound.{IsSoundPacket}
 use Rattle.geo_world.proofs.SoundRegions.{state-set_same, state-set_other}
 use Rattle.geo_world.proofs.SoundMoves.{arrived-sound}
 use Rattle.geo_world.proofs.SoundSteps.{sent_packet-sound}

@@ -9,13 +9,13 @@ use Rattle.write_set.specs.declared.batch.Batch.{Batch}
 use Rattle.write_set.specs.declared.candidate.Candidate.{Candidate}
 use Rattle.write_set.specs.Journal.{Journal, log_of}
 use Rattle.write_set.specs.Snapshot.{snap_rows}
-use Rattle.geo_world.specs.declared.event.Event.{Event}
-use Rattle.geo_world.specs.Script.{IsWithin}
+use Rattle.world_script.specs.declared.event.Event.{Event}
+use Rattle.world_script.specs.Script.{IsWithin}
 use Rattle.geo_world.specs.World.{World, first_world, region_of, open_epoch, published_epochs, session_of}
 use Rattle.geo_world.specs.Step.{step, next_batch, sealed_world}
 use Rattle.geo_world.specs.Play.{world_after}
 use Rattle.geo_world.specs.Plays.{LeadTo}
-use Rattle.geo_world.specs.Sound.{IsSound, IsOpen, is_pending, pending_count}
+use Rattle.geo_world.specs.inner.Sound.{IsSound, IsOpen, is_pending, pending_count}
 use Rattle.geo_world.proofs.Counting.{count-below}
 use Rattle.geo_world.proofs.Moves.{IsKeptBySeals, step-moves}
 use Rattle.geo_world.proofs.SoundSeal.{log-pushed_same, log-pushed_other}

@@ -5,8 +5,8 @@ use Rattle.std.specs.List.{cons_option}
 use Rattle.std.proofs.lemmas.List.Elements.{filter_map-append}
 use Rattle.write_set.specs.declared.batch.Batch.{Batch}
 use Rattle.geo_world.specs.declared.region.Region.{Region}
-use Rattle.geo_world.specs.Arrivals.{batch_in}
-use Rattle.geo_world.specs.Regions.{Gathers, TakesOut, is_gathered, next_batch_of}
+use Rattle.geo_world.specs.inner.Arrivals.{batch_in}
+use Rattle.geo_world.specs.inner.Regions.{Gathers, TakesOut, is_gathered, next_batch_of}
 use Rattle.geo_world.specs.Step.{numbers_below}
 
 pub gathered_more : (f : ℕ → Option Batch) (n : ℕ) (now later : List Batch) (o : Option Batch) → now ≡ filter_map f (numbers_below n) → o ≡ f n →

@@ -4,8 +4,8 @@ use Rattle.std.proofs.lemmas.List.{length_push}
 use Rattle.write_set.specs.declared.batch.Batch.{Batch}
 use Rattle.write_set.specs.Journal.{Journal, IsFront, Extends, log_of}
 use Rattle.write_set.specs.laws.Sealing.{with_batch_extends}
-use Rattle.geo_world.specs.declared.event.Event.{Event}
-use Rattle.geo_world.specs.Script.{IsWithin}
+use Rattle.world_script.specs.declared.event.Event.{Event}
+use Rattle.world_script.specs.Script.{IsWithin}
 use Rattle.geo_world.specs.World.{World, RegionState, new_region, region_of, sealed_by}
 use Rattle.geo_world.specs.Step.{step, next_batch}
 use Rattle.geo_world.proofs.Moves.{IsKeptBesidesSeals, IsKeptBySeals, step-moves}

@@ -25,13 +25,4 @@ pub mod Delivering
 pub mod SealingLemmas
 pub mod PublishingLemmas
 pub mod Opening
-pub mod Pieces
-pub mod Decimals
-pub mod EventTexts
-pub mod OneEvent
-pub mod LineTexts
-pub mod Faults
-pub mod OneText
-pub mod TextLaws
-pub mod ScriptTexts
 pub mod OneTable

@@ -6,11 +6,11 @@ use Rattle.write_set.specs.Merge.{verdicts, is_committed}
 use Rattle.geo_base.specs.declared.limits.TheConstants.{MAX_AGE, MAX_AHEAD, SESSIONS_PER_REGION}
 use Rattle.write_set.specs.Snapshot.{snap_at}
 use Rattle.write_set.specs.declared.candidate.Candidate.{Candidate}
-use Rattle.geo_world.specs.declared.event.Statement.{Statement}
-use Rattle.geo_world.specs.declared.event.Statement.TheVariants.{Insert, Select}
-use Rattle.geo_world.specs.declared.event.Event.{Event}
-use Rattle.geo_world.specs.declared.event.Event.TheVariants.{Sql, Seal, Deliver, Publish, Show}
-use Rattle.geo_world.specs.Script.{IsWithin}
+use Rattle.world_script.specs.declared.event.Statement.{Statement}
+use Rattle.world_script.specs.declared.event.Statement.TheVariants.{Insert, Select}
+use Rattle.world_script.specs.declared.event.Event.{Event}
+use Rattle.world_script.specs.declared.event.Event.TheVariants.{Sql, Seal, Deliver, Publish, Show}
+use Rattle.world_script.specs.Script.{IsWithin}
 use Rattle.geo_world.specs.World.{World, Session, Idle, Pending, Packet, BatchPacket, region_of, sealed_by, open_epoch, published_epochs, session_of, holds}
 use Rattle.geo_world.specs.Step.{Stepped, says, step, sql, run_statement, submit, submitted, seal, sealed_world, deliver, deliver_one, arrive, publish, have, with_region, kv_row, put_candidate, next_ticket, is_full, others, sent_lines}
 use Rattle.geo_world.specs.Lines.{changed_one, duplicate, too_old, batch_full, seal_ahead, seal_last, batch_sealed, packet_new, packet_known, packet_far, epoch_published, region_waits}

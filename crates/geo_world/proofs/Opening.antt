@@ -12,9 +12,9 @@ use Rattle.geo_world.specs.declared.region.Region.{Region}
 use Rattle.geo_world.specs.declared.session.Session.{Session as KeptSession}
 use Rattle.geo_world.specs.declared.session.Session.TheVariants as kept
 use Rattle.geo_world.specs.World.{World, RegionState, new_region, first_world, region_of}
-use Rattle.geo_world.specs.Sessions.{session_at}
-use Rattle.geo_world.specs.Regions.{IsNew}
-use Rattle.geo_world.specs.Standing.{StandsFor, RegionStandsFor, HoldsArrived, IsAsSealed, session_state, packet_state}
+use Rattle.geo_world.specs.inner.Sessions.{session_at}
+use Rattle.geo_world.specs.inner.Regions.{IsNew}
+use Rattle.geo_world.specs.inner.Standing.{StandsFor, RegionStandsFor, HoldsArrived, IsAsSealed, session_state, packet_state}
 use Rattle.geo_world.specs.Tables.{kv_tables}
 use Rattle.geo_world.proofs.SoundSteps.{first_world-sound}
 

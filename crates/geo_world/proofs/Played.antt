@@ -7,13 +7,13 @@ use Rattle.write_set.specs.declared.batch.Batch.{Batch}
 use Rattle.write_set.specs.Journal.{Extends, last_sealed, epochs_of}
 use Rattle.write_set.specs.Snapshot.{snap_rows}
 use Rattle.write_set.specs.laws.Sealing.{epochs_stay}
-use Rattle.geo_world.specs.declared.event.Event.{Event}
-use Rattle.geo_world.specs.Script.{IsWithin}
+use Rattle.world_script.specs.declared.event.Event.{Event}
+use Rattle.world_script.specs.Script.{IsWithin}
 use Rattle.geo_world.specs.World.{World, new_region, first_world, region_of, sealed_by, open_epoch, published_epochs}
 use Rattle.geo_world.specs.Step.{step}
 use Rattle.geo_world.specs.Play.{world_after}
 use Rattle.geo_world.specs.Plays.{LeadTo}
-use Rattle.geo_world.specs.Sound.{IsSound}
+use Rattle.geo_world.specs.inner.Sound.{IsSound}
 use Rattle.geo_world.proofs.SoundSteps.{first_world-sound, step-sound, step-count, step-last, log_empty, published-le-sealed}
 use Rattle.geo_world.proofs.Growing.{Extends-itself, Extends-joins, step-extends, step-seals_one, step-publishes_on}
 

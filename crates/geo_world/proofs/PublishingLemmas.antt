@@ -23,11 +23,11 @@ use Rattle.geo_world.specs.declared.session.Session.{Session as KeptSession}
 use Rattle.geo_world.specs.World.{World, RegionState, region_of, sealed_by, published_epochs, has_arrived, holds}
 use Rattle.geo_world.specs.Step.{Stepped, says, publish, have, numbers_below}
 use Rattle.geo_world.specs.Lines as lines
-use Rattle.geo_world.specs.Sessions.{session_at}
-use Rattle.geo_world.specs.Arrivals.{batch_in}
-use Rattle.geo_world.specs.Regions.{Publishes, IsReady, is_gathered, has_next, next_batch_of, next_batches}
-use Rattle.geo_world.specs.Standing.{StandsFor, IsSomeWorld, RegionStandsFor, HoldsArrived, IsCleared, IsAsSealed, Makes, session_state, packet_state}
-use Rattle.geo_world.specs.Sound.{IsSound, IsSoundRegion, IsSealed}
+use Rattle.geo_world.specs.inner.Sessions.{session_at}
+use Rattle.geo_world.specs.inner.Arrivals.{batch_in}
+use Rattle.geo_world.specs.inner.Regions.{Publishes, IsReady, is_gathered, has_next, next_batch_of, next_batches}
+use Rattle.geo_world.specs.inner.Standing.{StandsFor, IsSomeWorld, RegionStandsFor, HoldsArrived, IsCleared, IsAsSealed, Makes, session_state, packet_state}
+use Rattle.geo_world.specs.inner.Sound.{IsSound, IsSoundRegion, IsSealed}
 use Rattle.geo_world.proofs.LastSealed.{last_sealed-le-log}
 use Rattle.geo_world.proofs.Counting.{count-agree, count-all}
 use Rattle.geo_world.proofs.SoundRegions.{state-set_same}

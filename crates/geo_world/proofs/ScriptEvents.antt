@@ -2,9 +2,9 @@
 use Rattle.std.proofs.Common.{◌≡◌, ℕ, suc, ◌+◌, ◌-◌, ◌<◌, ◌≤◌, List, [], ◌∷◌, ◌++◌, length, All, refl, sym, ap, subst, arith, length-append}
 use Rattle.std.proofs.lemmas.List.Elements.{All-nil, All-cons, All-head, All-tail}
 use Rattle.geo_base.specs.declared.limits.TheConstants.{SCRIPT_BYTES, LAST_EPOCH}
-use Rattle.geo_world.specs.declared.event.Event.{Event}
-use Rattle.geo_world.specs.declared.script.Script.{Script}
-use Rattle.geo_world.specs.Script.{IsScript, IsWithin, AreLinesOf, text_of_lines, header_lines}
+use Rattle.world_script.specs.declared.event.Event.{Event}
+use Rattle.world_script.specs.declared.script.Script.{Script}
+use Rattle.world_script.specs.Script.{IsScript, IsWithin, AreLinesOf, text_of_lines, header_lines}
 use Rattle.geo_world.specs.World.{first_world}
 use Rattle.geo_world.specs.Play.{world_after}
 use Rattle.geo_world.specs.Plays.{LeadTo}

@@ -20,11 +20,11 @@ use Rattle.geo_world.specs.declared.session.Session.{Session as KeptSession}
 use Rattle.geo_world.specs.World.{World, RegionState, Packet, BatchPacket, region_of, sealed_by, open_epoch, has_arrived}
 use Rattle.geo_world.specs.Step.{Stepped, says, seal, sealed_world, next_batch, others, sent_lines}
 use Rattle.geo_world.specs.Lines as lines
-use Rattle.geo_world.specs.Sessions.{session_at}
-use Rattle.geo_world.specs.Sending.{packet_with}
-use Rattle.geo_world.specs.Regions.{Seals}
-use Rattle.geo_world.specs.Standing.{StandsFor, RegionStandsFor, HoldsArrived, IsCleared, IsAsSealed, Makes, session_state, packet_state}
-use Rattle.geo_world.specs.Sound.{IsSound, IsSoundRegion, IsSealed}
+use Rattle.geo_world.specs.inner.Sessions.{session_at}
+use Rattle.geo_world.specs.inner.Sending.{packet_with}
+use Rattle.geo_world.specs.inner.Regions.{Seals}
+use Rattle.geo_world.specs.inner.Standing.{StandsFor, RegionStandsFor, HoldsArrived, IsCleared, IsAsSealed, Makes, session_state, packet_state}
+use Rattle.geo_world.specs.inner.Sound.{IsSound, IsSoundRegion, IsSealed}
 use Rattle.geo_world.proofs.SoundRegions.{state-set_same, state-set_other}
 use Rattle.geo_world.proofs.SoundSeal.{sealed_world-sound, waiting-few, log-pushed_same, log-pushed_other, log-pushed_grows}
 use Rattle.geo_world.proofs.Standings.{IsHeld, ChangesOne, changed-stands, same_then}

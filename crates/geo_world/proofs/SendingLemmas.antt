@@ -5,7 +5,7 @@ use Rattle.std.proofs.lemmas.List.Elements.{filter-append}
 use Rattle.write_set.specs.declared.batch.Batch.{Batch}
 use Rattle.geo_world.specs.declared.packet.Packet.{Packet as KeptPacket}
 use Rattle.geo_world.specs.Lines.{sent}
-use Rattle.geo_world.specs.Sending.{packet_with}
+use Rattle.geo_world.specs.inner.Sending.{packet_with}
 use Rattle.geo_world.specs.Step.{numbers_below, others, sent_lines}
 
 others-suc : (n region : ℕ) → others (n + 1) region ≡ others n region ++ filter (λ q. not (q == region)) (n ∷ [])

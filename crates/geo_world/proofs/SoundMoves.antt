@@ -6,7 +6,7 @@ use Rattle.geo_base.specs.declared.limits.TheConstants.{MAX_REGIONS, MAX_AHEAD}
 use Rattle.write_set.specs.Journal.{log_of, last_sealed}
 use Rattle.geo_world.specs.World.{World, RegionState, BatchPacket, region_of, sealed_by, open_epoch, has_arrived, holds}
 use Rattle.geo_world.specs.Step.{with_region, have}
-use Rattle.geo_world.specs.Sound.{IsSound, IsSealed, IsSoundRegion, IsSoundPacket, IsOpen}
+use Rattle.geo_world.specs.inner.Sound.{IsSound, IsSealed, IsSoundRegion, IsSoundPacket, IsOpen}
 use Rattle.geo_world.proofs.Counting.{count-all}
 use Rattle.geo_world.proofs.LastSealed.{le-last_sealed}
 use Rattle.geo_world.proofs.SoundRegions.{state-set_same, state-set_other, IsSealed-later, IsSoundPacket-later, IsKept, IsSoundRegion-kept, pending_count-same}

@@ -6,7 +6,7 @@ use Rattle.write_set.specs.declared.batch.Batch.{Batch}
 use Rattle.write_set.specs.Journal.{log_of, last_sealed}
 use Rattle.geo_world.specs.World.{World, RegionState, Session, Packet, BatchPacket, new_region, region_of, sealed_by, session_of, has_arrived}
 use Rattle.geo_world.specs.Step.{numbers_below}
-use Rattle.geo_world.specs.Sound.{IsSealed, IsSoundRegion, IsSoundPacket, IsOpen, is_pending, pending_count, candidate_count}
+use Rattle.geo_world.specs.inner.Sound.{IsSealed, IsSoundRegion, IsSoundPacket, IsOpen, is_pending, pending_count, candidate_count}
 
 -- the state of a region that was put in its place
 pub state-set_same : (regions : List RegionState) (region : ℕ) (state : RegionState) → region < length regions →

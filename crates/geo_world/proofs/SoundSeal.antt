@@ -12,7 +12,7 @@ use Rattle.write_set.specs.Journal.{IsFront}
 use Rattle.write_set.specs.laws.Sealing.{with_batch_extends, with_batch_sealed, with_batch_lawful}
 use Rattle.geo_world.specs.World.{World, RegionState, BatchPacket, region_of, sealed_by, open_epoch, session_of, has_arrived}
 use Rattle.geo_world.specs.Step.{numbers_below, others, next_batch, sealed_world}
-use Rattle.geo_world.specs.Sound.{IsSound, IsSoundRegion, IsSoundPacket, IsOpen, is_pending, pending_count}
+use Rattle.geo_world.specs.inner.Sound.{IsSound, IsSoundRegion, IsSoundPacket, IsOpen, is_pending, pending_count}
 use Rattle.geo_world.proofs.Counting.{count-below}
 use Rattle.geo_world.proofs.SoundRegions.{state-set_same, state-set_other, IsSealed-later, IsSoundPacket-later, IsKept, IsSoundRegion-kept, pending_count-same}
 

@@ -8,11 +8,11 @@ use Rattle.geo_base.specs.declared.limits.TheConstants.{MAX_REGIONS, MAX_AGE, MA
 use Rattle.write_set.specs.declared.batch.Batch.{Batch}
 use Rattle.write_set.specs.Journal.{log_of, last_sealed}
 use Rattle.write_set.specs.laws.Rising.{one_change}
-use Rattle.geo_world.specs.declared.event.Event.{Event}
-use Rattle.geo_world.specs.Script.{IsWithin}
+use Rattle.world_script.specs.declared.event.Event.{Event}
+use Rattle.world_script.specs.Script.{IsWithin}
 use Rattle.geo_world.specs.World.{World, RegionState, Packet, BatchPacket, new_region, first_world, region_of, sealed_by, open_epoch, has_arrived}
 use Rattle.geo_world.specs.Step.{step, deliver_one, put_candidate, next_ticket}
-use Rattle.geo_world.specs.Sound.{IsSound, IsSoundRegion, IsSoundPacket, IsOpen, pending_count, candidate_count}
+use Rattle.geo_world.specs.inner.Sound.{IsSound, IsSoundRegion, IsSoundPacket, IsOpen, pending_count, candidate_count}
 use Rattle.geo_world.proofs.LastSealed.{last_sealed-le-log}
 use Rattle.geo_world.proofs.SoundSubmit.{submitted-sound}
 use Rattle.geo_world.proofs.SoundSeal.{sealed_world-sound}

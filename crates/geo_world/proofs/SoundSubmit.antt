@@ -10,7 +10,7 @@ use Rattle.write_set.specs.declared.candidate.Candidate.{Candidate}
 use Rattle.write_set.specs.Journal.{log_of, last_sealed}
 use Rattle.geo_world.specs.World.{World, RegionState, Session, Idle, Pending, region_of, sealed_by, open_epoch, session_of, is_session, has_arrived}
 use Rattle.geo_world.specs.Step.{submitted}
-use Rattle.geo_world.specs.Sound.{IsSound, IsSoundRegion, IsSoundPacket, IsOpen, is_pending, pending_count, candidate_count}
+use Rattle.geo_world.specs.inner.Sound.{IsSound, IsSoundRegion, IsSoundPacket, IsOpen, is_pending, pending_count, candidate_count}
 use Rattle.geo_world.proofs.Counting.{count-rises}
 use Rattle.geo_world.proofs.SoundRegions.{state-set_same, state-set_other, IsSealed-later, IsSoundPacket-later, IsKept, IsSoundRegion-kept}
 

@@ -11,7 +11,7 @@ use Rattle.write_set.specs.Journal.{log_of, last_sealed}
 use Rattle.geo_world.specs.World.{World, Idle, BatchPacket, region_of, sealed_by, open_epoch, session_of, holds}
 use Rattle.geo_world.specs.Step.{Stepped, says, put_candidate, next_ticket, is_full, submit, arrive}
 use Rattle.geo_world.specs.Lines.{changed_one, packet_known, packet_new, too_old, batch_full, packet_far}
-use Rattle.geo_world.specs.Sound.{IsSound, IsSoundPacket, IsOpen, PUT_SIZE, is_pending, pending_count}
+use Rattle.geo_world.specs.inner.Sound.{IsSound, IsSoundPacket, IsOpen, PUT_SIZE, is_pending, pending_count}
 use Rattle.geo_world.proofs.Counting.{count-all}
 use Rattle.geo_world.proofs.LastSealed.{last_sealed-le-log}
 use Rattle.geo_world.proofs.SoundSteps.{put-open, sent_packet-sound}

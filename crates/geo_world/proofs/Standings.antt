@@ -9,8 +9,8 @@ use Rattle.write_set.specs.Plain.{IsMergeOf}
 use Rattle.geo_world.specs.declared.world.World.{World as Kept}
 use Rattle.geo_world.specs.declared.region.Region.{Region}
 use Rattle.geo_world.specs.World.{World, RegionState, region_of, published_epochs, has_arrived}
-use Rattle.geo_world.specs.Standing.{StandsFor, IsSomeWorld, RegionStandsFor, HoldsArrived, IsCleared, IsAsSealed, packet_state}
-use Rattle.geo_world.specs.Sound.{IsSound}
+use Rattle.geo_world.specs.inner.Standing.{StandsFor, IsSomeWorld, RegionStandsFor, HoldsArrived, IsCleared, IsAsSealed, packet_state}
+use Rattle.geo_world.specs.inner.Sound.{IsSound}
 use Rattle.geo_world.proofs.SoundRegions.{IsKept}
 
 pub slice_get-set_same : {A : Type 0} → (xs : List A) (i : ℕ) (a : A) → i < length xs → slice_get (set xs i a) i ≡ Some a

@@ -13,9 +13,9 @@ use Rattle.geo_world.specs.declared.session.Session.{Session as KeptSession}
 use Rattle.geo_world.specs.declared.session.Session.TheVariants as kept
 use Rattle.geo_world.specs.World.{World, RegionState, Idle, Pending, region_of, session_of}
 use Rattle.geo_world.specs.Step.{submitted, put_candidate, next_ticket}
-use Rattle.geo_world.specs.Sessions.{session_at}
-use Rattle.geo_world.specs.Regions.{Takes}
-use Rattle.geo_world.specs.Standing.{StandsFor, RegionStandsFor, HoldsArrived, IsCleared, session_state, packet_state, IsAsSealed}
+use Rattle.geo_world.specs.inner.Sessions.{session_at}
+use Rattle.geo_world.specs.inner.Regions.{Takes}
+use Rattle.geo_world.specs.inner.Standing.{StandsFor, RegionStandsFor, HoldsArrived, IsCleared, session_state, packet_state, IsAsSealed}
 use Rattle.geo_world.proofs.SoundRegions.{state-set_same, state-set_other}
 use Rattle.geo_world.proofs.SoundSubmit.{session_of-newest, session_of-older, submitted-sound}
 use Rattle.geo_world.proofs.SoundSteps.{put-open}

@@ -3,8 +3,8 @@ use Rattle.std.proofs.Common.{◌≡◌, ℕ, Bool, true, false, ◌==◌, List,
 use Rattle.std.proofs.lemmas.Bool.{and_parts}
 use Rattle.geo_base.specs.declared.numbers.CandId.{CandId}
 use Rattle.write_set.specs.declared.candidate.Candidate.{Candidate}
-use Rattle.geo_world.specs.declared.event.Event.{Event}
-use Rattle.geo_world.specs.Script.{IsWithin}
+use Rattle.world_script.specs.declared.event.Event.{Event}
+use Rattle.world_script.specs.Script.{IsWithin}
 use Rattle.geo_world.specs.World.{World, Idle, Pending, region_of, session_of, is_session}
 use Rattle.geo_world.specs.Step.{put_candidate, next_ticket, submitted, step}
 use Rattle.geo_world.specs.Play.{world_after}

@@ -4,10 +4,10 @@ use Rattle.geo_base.specs.declared.row_image.RowImage.{RowImage}
 use Rattle.write_set.specs.Journal.{epochs_of}
 use Rattle.write_set.specs.Merge.{verdicts, is_committed}
 use Rattle.write_set.specs.Snapshot.{snap_at, snap_rows}
-use Rattle.geo_world.specs.declared.event.Statement.{Statement}
-use Rattle.geo_world.specs.declared.event.Statement.TheVariants.{Insert, Select}
-use Rattle.geo_world.specs.declared.event.Event.{Event}
-use Rattle.geo_world.specs.declared.event.Event.TheVariants.{Sql, Seal, Deliver, Publish, Show}
+use Rattle.world_script.specs.declared.event.Statement.{Statement}
+use Rattle.world_script.specs.declared.event.Statement.TheVariants.{Insert, Select}
+use Rattle.world_script.specs.declared.event.Event.{Event}
+use Rattle.world_script.specs.declared.event.Event.TheVariants.{Sql, Seal, Deliver, Publish, Show}
 use Rattle.geo_world.specs.World.{World, Session, Idle, Pending, region_of, open_epoch, published_epochs, session_of, holds}
 use Rattle.geo_world.specs.Step.{kv_row, next_ticket, others, sent_lines, have}
 use Rattle.geo_world.specs.Lines.{changed_one, duplicate, session_waits, answer, seal_ahead, batch_sealed, packet_new, packet_known, packet_absent, epoch_published, region_waits, shown}

@@ -1,16 +1,8 @@
-pub mod Script
-pub mod Fault
-pub mod Reading
 pub mod World
 pub mod Lines
 pub mod Step
-pub mod Sound
-pub mod Sessions
-pub mod Arrivals
-pub mod Regions
-pub mod Sending
-pub mod Standing
 pub mod Play
 pub mod Plays
 pub mod Answers
 pub mod Tables
+pub mod inner

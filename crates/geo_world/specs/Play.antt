@@ -1,6 +1,6 @@
 -- What a whole play prints.
 use Rattle.std.specs.Prelude.{ℕ, List, [], ◌∷◌, ◌++◌}
-use Rattle.geo_world.specs.declared.event.Event.{Event}
+use Rattle.world_script.specs.declared.event.Event.{Event}
 use Rattle.geo_world.specs.World.{World}
 use Rattle.geo_world.specs.Step.{step}
 

@@ -1,8 +1,8 @@
 -- The worlds that plays lead to.
 use Rattle.std.specs.Prelude.{◌≡◌, ℕ, ◌≤◌, List, All}
 use Rattle.geo_base.specs.declared.limits.TheConstants.{MAX_REGIONS}
-use Rattle.geo_world.specs.declared.event.Event.{Event}
-use Rattle.geo_world.specs.Script.{IsWithin}
+use Rattle.world_script.specs.declared.event.Event.{Event}
+use Rattle.world_script.specs.Script.{IsWithin}
 use Rattle.geo_world.specs.World.{World, first_world}
 use Rattle.geo_world.specs.Play.{world_after}
 

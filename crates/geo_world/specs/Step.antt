@@ -12,10 +12,10 @@ use Rattle.write_set.specs.Journal.{log_of, epochs_of}
 use Rattle.write_set.specs.Merge.{verdicts, is_committed}
 use Rattle.write_set.specs.Snapshot.{snap_at, snap_rows}
 use Rattle.write_set.specs.Sizes.{batch_size}
-use Rattle.geo_world.specs.declared.event.Statement.{Statement}
-use Rattle.geo_world.specs.declared.event.Statement.TheVariants.{Insert, Select}
-use Rattle.geo_world.specs.declared.event.Event.{Event}
-use Rattle.geo_world.specs.declared.event.Event.TheVariants.{Sql, Seal, Deliver, Publish, Show}
+use Rattle.world_script.specs.declared.event.Statement.{Statement}
+use Rattle.world_script.specs.declared.event.Statement.TheVariants.{Insert, Select}
+use Rattle.world_script.specs.declared.event.Event.{Event}
+use Rattle.world_script.specs.declared.event.Event.TheVariants.{Sql, Seal, Deliver, Publish, Show}
 use Rattle.geo_world.specs.Tables.{kv_cells}
 use Rattle.geo_world.specs.World.{World, RegionState, Session, Idle, Pending, Packet, BatchPacket, region_of, sealed_by, open_epoch, published_epochs, session_of, holds}
 use Rattle.geo_world.specs.Lines.{changed_one, duplicate, too_old, session_waits, batch_full, answer, seal_ahead, seal_last, batch_sealed, sent, packet_new, packet_known, packet_far, packet_absent, epoch_published, region_waits, shown}

@@ -1,6 +1,6 @@
 //! The batches of other regions that have come to a region.
 ghost use Rattle.std.specs.Prelude.{◌≡◌, ℕ, None, Some, is_some, OnOk, IfOk};
-ghost use Rattle.geo_world.specs.Arrivals.{batch_in, with_batch, without_batch};
+ghost use Rattle.geo_world.specs.inner.Arrivals.{batch_in, with_batch, without_batch};
 
 use geo_base::{Epoch, NoMemory, RegionNo};
 use std::alloc::Global;
@@ -8,7 +8,7 @@ use std::collections::BTreeMap;
 use write_set::Batch;
 
 /// The batches that have come and are not published yet, by their regions and epochs.
-#[derive(Debug, Drop)]
+#[derive(Drop)]
 pub struct Inbox {
     pub batches: BTreeMap<(RegionNo, Epoch), Batch>,
 }

@@ -1,13 +1,13 @@
 //! One region of the world.
 ghost use Rattle.std.specs.Prelude.{◌≡◌, ◌+◌, ◌^◌, ◌<◌, ◌≤◌, ◌∷◌, ℕ, IfOk, OnOk, IsSome, Some, is_some, vec_len, nat_le, nat_lt, count_by, length};
 ghost use Rattle.std.specs.Prelude.{if◌then◌else◌, ◌==◌, ◌||◌};
-ghost use Rattle.geo_world.specs.Arrivals.{batch_in};
+ghost use Rattle.geo_world.specs.inner.Arrivals.{batch_in};
 ghost use Rattle.geo_base.specs.declared.limits.TheConstants.{MAX_AHEAD, MAX_REGIONS};
 ghost use Rattle.write_set.specs.Journal.{Epochs, candidates_of};
 ghost use Rattle.write_set.specs.Merge.{verdicts};
 ghost use Rattle.write_set.specs.Plain.{IsMergeOf};
 ghost use Rattle.write_set.specs.Overlay.{image_in};
-ghost use Rattle.geo_world.specs.Regions.{IsNew, Takes, Seals, Receives, TakesOut, Gathers, IsReady, Publishes, has_next, next_batch_of, next_batches};
+ghost use Rattle.geo_world.specs.inner.Regions.{IsNew, Takes, Seals, Receives, TakesOut, Gathers, IsReady, Publishes, has_next, next_batch_of, next_batches};
 ghost use Rattle.geo_world.specs.Step.{numbers_below};
 
 use crate::inbox::{Inbox, empty_inbox, has_batch, put_batch, take_batch};
@@ -20,7 +20,7 @@ use write_set::{Batch, Candidate, CandidateList, Plain};
 
 /// One region: the epoch that it seals next, the batches that it has sealed, its open candidates, the
 /// batches that have come to it, what it has published, and its sessions.
-#[derive(Debug, Drop)]
+#[derive(Drop)]
 pub struct Region {
     pub open: Epoch,
     pub log: Vec<Batch>,

@@ -1,7 +1,7 @@
 //! A region sends a batch to the others.
 ghost use Rattle.std.specs.Prelude.{◌≡◌, ◌++◌, ◌∷◌, [], OnOk, map, string_bytes, vec_len};
 ghost use Rattle.geo_world.specs.Lines.{sent};
-ghost use Rattle.geo_world.specs.Sending.{packet_with};
+ghost use Rattle.geo_world.specs.inner.Sending.{packet_with};
 ghost use Rattle.geo_world.specs.Step.{others, sent_lines};
 
 use crate::packet::Packet;

@@ -1,7 +1,7 @@
 use geo_base::CandId;
 
 /// Where a session of a region stands.
-#[derive(Clone, Copy, Debug, PartialEq, Eq)]
+#[derive(Clone, Copy)]
 pub enum Session {
     /// It takes a statement.
     Idle,

@@ -1,6 +1,6 @@
 //! The sessions of a region.
 ghost use Rattle.std.specs.Prelude.{◌≡◌, ℕ, ◌<◌, IfOk, replicate, slice_set, vec_len};
-ghost use Rattle.geo_world.specs.Sessions.{session_at};
+ghost use Rattle.geo_world.specs.inner.Sessions.{session_at};
 ghost use Rattle.geo_base.specs.declared.limits.TheConstants.{SESSIONS_PER_REGION};
 ghost use Rattle.geo_world.specs.declared.session.Session.TheVariants as kept;
 

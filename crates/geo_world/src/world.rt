@@ -1,25 +1,23 @@
 ghost use Rattle.std.specs.Prelude.{◌≡◌, IfOk, OnOk, ◌≤◌, string_bytes};
 ghost use Rattle.geo_base.specs.declared.limits.TheConstants.{MAX_REGIONS};
-ghost use Rattle.geo_world.specs.Script.{IsWithin};
+ghost use Rattle.world_script.specs.Script.{IsWithin};
 ghost use Rattle.geo_world.specs.World.{World as WorldState, first_world};
 ghost use Rattle.geo_world.specs.Step.{step};
 
 mod delivering;
 mod epochs;
 mod statements;
-#[cfg(test)]
-mod tests;
 
-use crate::event::Event;
 use crate::packet::Packet;
 use crate::region::Region;
 use crate::tables::kv_schema;
 use geo_base::{Epoch, NoMemory};
 use geo_schema::Schema;
 use std::alloc::Global;
+use world_script::Event;
 
 /// The schema, all regions, and every packet that was ever sent.
-#[derive(Debug, Drop)]
+#[derive(Drop)]
 pub struct World {
     alloc: Global,
     schema: Schema,
@@ -29,7 +27,7 @@ pub struct World {
 }
 
 impl World {
-    ghost use Rattle.geo_world.specs.Standing.{StandsFor, IsSomeWorld, Makes, region_count};
+    ghost use Rattle.geo_world.specs.inner.Standing.{StandsFor, IsSomeWorld, Makes, region_count};
 
     /// The world before the first event. `regions` is 1 to 8; no region opens an epoch past `last`.
     pub fn open(alloc: Global, regions: u8, last: Epoch) -> Result<World, NoMemory>

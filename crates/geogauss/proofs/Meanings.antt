@@ -5,8 +5,8 @@ use Rattle.std.proofs.KnownBytes.{Appends-kept, Consumes-nil, Keeps-refl, Keeps-
 use Rattle.geo_base.specs.declared.limits.TheConstants.{SCRIPT_BYTES}
 use Rattle.geo_io.specs.Causes.{Rose}
 use Rattle.geo_io.specs.Told.{LosesAtMost}
-use Rattle.geo_world.specs.declared.script.Script.{Script}
-use Rattle.geo_world.specs.Script.{IsScript}
+use Rattle.world_script.specs.declared.script.Script.{Script}
+use Rattle.world_script.specs.Script.{IsScript}
 use Rattle.geogauss.specs.declared.status.Status.{Status}
 use Rattle.geogauss.specs.declared.status.Status.TheVariants.{Done, Usage, ScriptFault, ReadFault, WriteFault, NoMemory}
 use Rattle.geogauss.specs.Status.{IsScriptFault}

@@ -5,7 +5,7 @@ use Rattle.std.specs.Io.KnownBytes.{Appends, Keeps}
 use Rattle.geo_io.specs.Told.{IsFrontOf, AppendsFrontOf}
 use Rattle.geo_io.specs.laws.Told.{IsFrontOf-append, IsFrontOf-behind, IsFrontOf-trans}
 use Rattle.std.proofs.KnownBytes.{Appends-trans, Appends-nil, Appends-kept}
-use Rattle.geo_world.specs.declared.event.Event.{Event}
+use Rattle.world_script.specs.declared.event.Event.{Event}
 use Rattle.geo_world.specs.World.{World}
 use Rattle.geo_world.specs.Step.{step}
 use Rattle.geo_world.specs.Play.{text_of, world_after}

@@ -5,13 +5,13 @@ use Rattle.std.proofs.Math.Nat.{eq-or-lt_of_le}
 use Rattle.std.proofs.Math.Seq.{take-append_seam}
 use Rattle.std.specs.Io.KnownBytes.{Consumes, IsAtEnd}
 use Rattle.geo_base.specs.declared.limits.TheConstants.{SCRIPT_BYTES}
-use Rattle.geo_world.specs.declared.event.Event.{Event}
-use Rattle.geo_world.specs.declared.script.Script.{Script}
-use Rattle.geo_world.specs.declared.script.ScriptFault.{ScriptFault}
-use Rattle.geo_world.specs.declared.script.ReadFault.{ReadFault}
-use Rattle.geo_world.specs.declared.script.ReadFault.TheVariants as read
-use Rattle.geo_world.specs.Script.{IsScript, IsWithin, AreLinesOf}
-use Rattle.geo_world.specs.Fault.{IsFault}
+use Rattle.world_script.specs.declared.event.Event.{Event}
+use Rattle.world_script.specs.declared.script.Script.{Script}
+use Rattle.world_script.specs.declared.script.ScriptFault.{ScriptFault}
+use Rattle.world_script.specs.declared.script.ReadFault.{ReadFault}
+use Rattle.world_script.specs.declared.script.ReadFault.TheVariants as read
+use Rattle.world_script.specs.Script.{IsScript, IsWithin, AreLinesOf}
+use Rattle.world_script.specs.Fault.{IsFault}
 use Rattle.write_set.specs.Isolation.{IsSnapshotIsolated}
 use Rattle.geo_world.specs.Play.{world_after}
 use Rattle.geo_world.specs.Plays.{LeadTo}

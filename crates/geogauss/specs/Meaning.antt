@@ -5,10 +5,10 @@ use Rattle.geo_base.specs.declared.limits.TheConstants.{SCRIPT_BYTES}
 use Rattle.geo_io.specs.Causes.{Rose}
 use Rattle.geo_io.specs.Told.{Lists, LosesAtMost}
 use Rattle.write_set.specs.Isolation.{IsSnapshotIsolated}
-use Rattle.geo_world.specs.declared.script.Script.{Script}
-use Rattle.geo_world.specs.declared.script.ScriptKind.{ScriptKind}
-use Rattle.geo_world.specs.Script.{IsScript}
-use Rattle.geo_world.specs.Fault.{IsFault}
+use Rattle.world_script.specs.declared.script.Script.{Script}
+use Rattle.world_script.specs.declared.script.ScriptKind.{ScriptKind}
+use Rattle.world_script.specs.Script.{IsScript}
+use Rattle.world_script.specs.Fault.{IsFault}
 use Rattle.geogauss.specs.declared.status.Status.{Status}
 use Rattle.geogauss.specs.declared.status.Status.TheVariants.{Done, Usage, ScriptFault, ReadFault, WriteFault, NoMemory}
 use Rattle.geogauss.specs.Playing.{StoppedAfter, IsNoScript, bytes_read, world_of, play_text, play_journal}

@@ -4,9 +4,9 @@ use Rattle.std.specs.Io.KnownBytes.{Appends}
 use Rattle.geo_base.specs.declared.limits.TheConstants.{SCRIPT_BYTES}
 use Rattle.geo_io.specs.Told.{IsFrontOf}
 use Rattle.write_set.specs.Journal.{Journal}
-use Rattle.geo_world.specs.declared.event.Event.{Event}
-use Rattle.geo_world.specs.declared.script.Script.{Script}
-use Rattle.geo_world.specs.Script.{IsScript}
+use Rattle.world_script.specs.declared.event.Event.{Event}
+use Rattle.world_script.specs.declared.script.Script.{Script}
+use Rattle.world_script.specs.Script.{IsScript}
 use Rattle.geo_world.specs.World.{World, first_world}
 use Rattle.geo_world.specs.Play.{text_of, world_after}
 

@@ -1,8 +1,8 @@
 -- How a call ended.
 use Rattle.std.specs.Prelude.{ℕ, List, ◌++◌, codes}
 use Rattle.std.specs.Fmt.{decimal}
-use Rattle.geo_world.specs.declared.script.ScriptKind.{ScriptKind}
-use Rattle.geo_world.specs.declared.script.ScriptKind.TheVariants.{TooLong, NotBuilt}
+use Rattle.world_script.specs.declared.script.ScriptKind.{ScriptKind}
+use Rattle.world_script.specs.declared.script.ScriptKind.TheVariants.{TooLong, NotBuilt}
 use Rattle.geogauss.specs.declared.status.Status.{Status}
 use Rattle.geogauss.specs.declared.status.Status.TheVariants.{Done, Usage, ScriptFault, ReadFault, WriteFault, NoMemory}
 

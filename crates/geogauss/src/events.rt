@@ -3,8 +3,8 @@ ghost use Rattle.std.specs.Prelude.{◌≡◌, ◌≤◌, OnOk, OnErr, All};
 ghost use Rattle.std.specs.Io.KnownBytes.{Appends};
 ghost use Rattle.geo_io.specs.Causes.{HasCauseOf};
 ghost use Rattle.geo_io.specs.Told.{AppendsFrontOf};
-ghost use Rattle.geo_world.specs.Script.{IsWithin};
-ghost use Rattle.geo_world.specs.Standing.{StandsFor, IsSomeWorld, region_count};
+ghost use Rattle.world_script.specs.Script.{IsWithin};
+ghost use Rattle.geo_world.specs.inner.Standing.{StandsFor, IsSomeWorld, region_count};
 ghost use Rattle.geo_world.specs.Step.{step};
 ghost use Rattle.geo_world.specs.Play.{text_of};
 ghost use Rattle.geo_world.specs.World.{World as WorldState};
@@ -16,8 +16,9 @@ use crate::status::Status;
 use geo_base::limits::LAST_EPOCH;
 use geo_base::{Epoch, NoMemory};
 use geo_io::{IoFault, Sink, write_whole};
-use geo_world::{Event, Script, World};
+use geo_world::World;
 use std::alloc::Global;
+use world_script::{Event, Script};
 
 /// Makes the step of an event and writes its lines.
 fn play_event<K: Sink>(world: &mut World, event: &Event, out: &mut K) -> Result<(), IoFault>

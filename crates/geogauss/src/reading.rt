@@ -1,15 +1,15 @@
 //! Reading the script from its source.
 ghost use Rattle.std.specs.Prelude.{◌≡◌, ◌≤◌, ℕ, ◌+◌, List, Some, IfOk, MatchResult};
 ghost use Rattle.geo_io.specs.Told.{LosesAtMost};
-ghost use Rattle.geo_world.specs.declared.script.Script.{Script};
-ghost use Rattle.geo_world.specs.Script.{IsScript};
+ghost use Rattle.world_script.specs.declared.script.Script.{Script};
+ghost use Rattle.world_script.specs.Script.{IsScript};
 ghost use Rattle.geogauss.specs.inner.Reading.{IsReadWhole, IsNotRead};
 
 use crate::status::Status;
 use geo_base::limits::SCRIPT_BYTES;
 use geo_io::{IoFault, Source, read_limited};
-use geo_world::{ReadFault, Script, read_script};
 use std::alloc::Global;
+use world_script::{ReadFault, Script, read_script};
 
 /// Reads a script. An error is the status of the call that asks for it.
 pub(crate) fn take_script<S: Source>(alloc: Global, src: &mut S) -> Result<Script, Status>

@@ -1,8 +1,8 @@
 ghost use Rattle.std.specs.Prelude.{◌≡◌};
 ghost use Rattle.geogauss.specs.Status.{number_of, kind_text};
 
-use geo_world::ScriptKind;
 use std::fmt;
+use world_script::ScriptKind;
 
 /// How a call ended.
 #[derive(Clone, Copy, Debug, PartialEq, Eq)]

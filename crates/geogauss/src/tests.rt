@@ -9,9 +9,9 @@ use crate::status::Status;
 use crate::top::top;
 use geo_base::limits::LAST_EPOCH;
 use geo_io::{CleanKeepers, CleanSink, CleanSource, MemSink, MemSource};
-use geo_world::ScriptKind;
 use std::alloc::{AllocError, Global};
 use std::test::Fail;
+use world_script::ScriptKind;
 
 const HEADER: &str = "geogauss play 1\nregions 2\ntable kv (k INT KEY, v INT)\nbegin\n";
 

@@ -10,7 +10,7 @@ use crate::printing::{print_packet_absent, print_packet_known, print_packet_new}
 use geo_base::{Duplicate, NoMemory};
 
 impl World {
-    ghost use Rattle.geo_world.specs.Standing.{StandsFor, IsSomeWorld, Makes, region_count};
+    ghost use Rattle.geo_world.specs.inner.Standing.{StandsFor, IsSomeWorld, Makes, region_count};
 
     /// Delivers the packets of these numbers, one after another.
     pub(super) fn deliver(

@@ -13,7 +13,7 @@ use crate::sending::send_all;
 use geo_base::{NoMemory, Outcome, RegionNo};
 
 impl World {
-    ghost use Rattle.geo_world.specs.Standing.{StandsFor, IsSomeWorld, Makes, region_count};
+    ghost use Rattle.geo_world.specs.inner.Standing.{StandsFor, IsSomeWorld, Makes, region_count};
 
     /// Seals the open epoch of a region and sends its batch to every other region.
     pub(super) fn seal(&mut self, out: &mut String, number: RegionNo) -> Result<(), NoMemory>

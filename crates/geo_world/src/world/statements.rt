@@ -5,11 +5,10 @@ ghost use Rattle.geo_world.specs.World.{World as WorldState, session_of};
 ghost use Rattle.geo_world.specs.World as state;
 ghost use Rattle.geo_world.specs.Step.{says, sql, run_statement, show};
 ghost use Rattle.geo_world.specs.Lines as lines;
-ghost use Rattle.geo_world.specs.declared.event.Statement.{Statement};
-ghost use Rattle.geo_world.specs.declared.event.Statement.TheVariants as statement;
+ghost use Rattle.world_script.specs.declared.event.Statement.{Statement};
+ghost use Rattle.world_script.specs.declared.event.Statement.TheVariants as statement;
 
 use super::World;
-use crate::event::Statement;
 use crate::printing::{
     print_answer, print_changed_one, print_duplicate, print_session_waits, print_shown,
 };
@@ -17,9 +16,10 @@ use crate::rows::{candidate_of, image_of, row_of};
 use crate::session::Session;
 use crate::sessions::session_state;
 use geo_base::{NoMemory, RegionNo};
+use world_script::Statement;
 
 impl World {
-    ghost use Rattle.geo_world.specs.Standing.{StandsFor, IsSomeWorld, Makes, region_count};
+    ghost use Rattle.geo_world.specs.inner.Standing.{StandsFor, IsSomeWorld, Makes, region_count};
 
     /// Shows what a region has published.
     pub(super) fn show(&self, out: &mut String, number: RegionNo) -> Result<(), NoMemory>

@@ -2,7 +2,7 @@
 use Rattle.std.specs.Prelude.{ℕ, Option, List}
 use Rattle.std.specs.Io.KnownBytes.{Appends}
 use Rattle.geo_io.specs.Causes.{Rose}
-use Rattle.geo_world.specs.declared.script.Script.{Script}
+use Rattle.world_script.specs.declared.script.Script.{Script}
 use Rattle.geogauss.specs.declared.status.Status.{Status}
 use Rattle.geogauss.specs.declared.status.Status.TheVariants.{Done, Usage, ScriptFault, ReadFault, WriteFault, NoMemory}
 use Rattle.geogauss.specs.Playing.{StoppedAfter, world_of, play_text}

@@ -3,10 +3,10 @@ use Rattle.std.specs.Prelude.{◌≡◌, ℕ, ◌≤◌, Option, Some, List, [],
 use Rattle.std.specs.Io.KnownBytes.{Consumes}
 use Rattle.geo_base.specs.declared.limits.TheConstants.{MAX_REGIONS}
 use Rattle.geo_io.specs.Causes.{Rose}
-use Rattle.geo_world.specs.declared.script.Script.{Script}
-use Rattle.geo_world.specs.declared.script.ScriptKind.{ScriptKind}
-use Rattle.geo_world.specs.Script.{IsScript, IsWithin}
-use Rattle.geo_world.specs.Fault.{IsFault}
+use Rattle.world_script.specs.declared.script.Script.{Script}
+use Rattle.world_script.specs.declared.script.ScriptKind.{ScriptKind}
+use Rattle.world_script.specs.Script.{IsScript, IsWithin}
+use Rattle.world_script.specs.Fault.{IsFault}
 use Rattle.geogauss.specs.declared.status.Status.{Status}
 use Rattle.geogauss.specs.declared.status.Status.TheVariants.{Done, Usage, ScriptFault, ReadFault, WriteFault, NoMemory}
 use Rattle.geogauss.specs.Playing.{bytes_read}

@@ -1,6 +1,6 @@
 -- The map has the batch at its place, and at other places what it had.
 use Rattle.std.proofs.Common.{Bool, cond, ap, ◌∙◌, Some}
-use Rattle.geo_world.specs.Arrivals.{batch_in}
+use Rattle.geo_world.specs.inner.Arrivals.{batch_in}
 use Rattle.geo_world.proofs.Arriving.{same_place}
 use Rattle.geo_world.proofs.inbox.put_batch.Goals as goal
 

@@ -1,6 +1,6 @@
 -- What is removed is of that region and epoch.
 use Rattle.std.proofs.Common.{Bool, cond, None, ap, ◌∙◌}
-use Rattle.geo_world.specs.Arrivals.{batch_in}
+use Rattle.geo_world.specs.inner.Arrivals.{batch_in}
 use Rattle.geo_world.proofs.Arriving.{same_place}
 use Rattle.geo_world.proofs.inbox.take_batch.Goals as goal
 

@@ -1,6 +1,6 @@
 -- Each region but the batch's own has one packet more.
 use Rattle.std.proofs.Common.{◌++◌, sym, ap, ◌∙◌, map, List, ℕ, string_bytes, vec_len}
-use Rattle.geo_world.specs.Sending.{packet_with}
+use Rattle.geo_world.specs.inner.Sending.{packet_with}
 use Rattle.geo_world.specs.Step.{sent_lines}
 use Rattle.geo_world.proofs.SendingLemmas.{packets_more, lines_more, packets_count, others_own}
 use Rattle.geo_world.proofs.sending.send_all.Goals as goal

@@ -1,5 +1,5 @@
 use Rattle.std.proofs.Common.{◌≡◌, ◌++◌, map, string_bytes, vec_len}
-use Rattle.geo_world.specs.Sending.{packet_with}
+use Rattle.geo_world.specs.inner.Sending.{packet_with}
 use Rattle.geo_world.specs.Step.{others, sent_lines}
 use Rattle.geo_world.proofs.sending.send_all.Given as goal
 

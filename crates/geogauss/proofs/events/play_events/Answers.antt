@@ -2,9 +2,9 @@ use Rattle.std.proofs.Common.{◌<◌, length, take, arith, ◌∙◌}
 use Rattle.std.proofs.lemmas.Result.{err_from_is_err_and}
 use Rattle.std.proofs.KnownBytes.{Appends-trans}
 use Rattle.std.specs.Prelude.{pos}
-use Rattle.geo_world.specs.declared.event.Event.{Event}
-use Rattle.geo_world.specs.declared.event.Event.TheVariants.{Sql}
-use Rattle.geo_world.specs.declared.event.Statement.TheVariants.{Insert}
+use Rattle.world_script.specs.declared.event.Event.{Event}
+use Rattle.world_script.specs.declared.event.Event.TheVariants.{Sql}
+use Rattle.world_script.specs.declared.event.Statement.TheVariants.{Insert}
 use Rattle.geo_world.specs.Play.{world_after}
 use Rattle.geogauss.proofs.PlayLemmas.{world_after-more, text_of-more, StoppedAfter-event}
 use Rattle.geogauss.proofs.events.play_events.Goals as goal

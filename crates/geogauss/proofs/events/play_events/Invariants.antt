@@ -1,6 +1,6 @@
 use Rattle.std.proofs.Common.{◌≡◌, ◌≤◌, take}
 use Rattle.std.specs.Io.KnownBytes.{Appends}
-use Rattle.geo_world.specs.Standing.{StandsFor, region_count}
+use Rattle.geo_world.specs.inner.Standing.{StandsFor, region_count}
 use Rattle.geo_world.specs.World.{World}
 use Rattle.geo_world.specs.Play.{text_of, world_after}
 use Rattle.geogauss.proofs.events.play_events.Given as goal

@@ -1,7 +1,7 @@
 use Rattle.std.proofs.Common.{◌+◌, ◌≤◌, length, arith, ap, Err}
 use Rattle.geo_base.specs.declared.limits.TheConstants.{SCRIPT_BYTES}
-use Rattle.geo_world.specs.declared.script.Script.{Script}
-use Rattle.geo_world.specs.Script.{IsScript}
+use Rattle.world_script.specs.declared.script.Script.{Script}
+use Rattle.world_script.specs.Script.{IsScript}
 use Rattle.geogauss.proofs.ReadLemmas.{bytes-are, script-is, no-text, not-told}
 use Rattle.geogauss.proofs.reading.take_script.Goals as goal
 

@@ -1,5 +1,5 @@
 use Rattle.std.proofs.Common.{◌≡◌, ◌≤◌, count_by}
-use Rattle.geo_world.specs.Regions.{has_next}
+use Rattle.geo_world.specs.inner.Regions.{has_next}
 use Rattle.geo_world.specs.Step.{numbers_below}
 use Rattle.geo_world.proofs.region.Region.count_next.Given as goal
 

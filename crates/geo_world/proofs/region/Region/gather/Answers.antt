@@ -2,7 +2,7 @@
 use Rattle.std.proofs.Common.{Some, sym, ◌∙◌, subst}
 use Rattle.std.specs.Option.{IsSome}
 use Rattle.write_set.specs.declared.batch.Batch.{Batch}
-use Rattle.geo_world.specs.Regions.{next_batch_of}
+use Rattle.geo_world.specs.inner.Regions.{next_batch_of}
 use Rattle.geo_world.proofs.Gathering.{gathered_more, next_same, gathers_none, gathers_more}
 use Rattle.geo_world.proofs.region.Region.gather.Goals as goal
 

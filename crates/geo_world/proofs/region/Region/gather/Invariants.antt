@@ -1,5 +1,5 @@
 use Rattle.std.proofs.Common.{◌≡◌, filter_map}
-use Rattle.geo_world.specs.Regions.{Gathers, next_batch_of}
+use Rattle.geo_world.specs.inner.Regions.{Gathers, next_batch_of}
 use Rattle.geo_world.specs.Step.{numbers_below}
 use Rattle.geo_world.proofs.region.Region.gather.Given as goal
 

@@ -1,7 +1,7 @@
 -- One packet more is delivered at each turn.
 use Rattle.std.proofs.Common.{◌≡◌, ◌+◌, ◌-◌, ℕ, subst, ◌∙◌, arith, string_bytes}
 use Rattle.geo_world.specs.Step.{deliver}
-use Rattle.geo_world.specs.Standing.{Makes}
+use Rattle.geo_world.specs.inner.Standing.{Makes}
 use Rattle.geo_world.proofs.Delivering.{deliver-makes}
 use Rattle.geo_world.proofs.world.World.deliver.Goals as goal
 

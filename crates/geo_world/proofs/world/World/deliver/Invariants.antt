@@ -1,7 +1,7 @@
 use Rattle.std.proofs.Common.{◌≡◌, ◌-◌, string_bytes}
 use Rattle.geo_world.specs.World.{World}
 use Rattle.geo_world.specs.Step.{deliver}
-use Rattle.geo_world.specs.Standing.{StandsFor, Makes, region_count}
+use Rattle.geo_world.specs.inner.Standing.{StandsFor, Makes, region_count}
 use Rattle.geo_world.proofs.world.World.deliver.Given as goal
 
 -- the packets so far are delivered

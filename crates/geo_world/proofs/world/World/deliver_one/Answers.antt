@@ -5,9 +5,9 @@ use Rattle.write_set.specs.declared.batch.Batch.{Batch}
 use Rattle.geo_world.specs.declared.region.Region.{Region}
 use Rattle.geo_world.specs.declared.world.World.{World as Kept}
 use Rattle.geo_world.specs.declared.packet.Packet.{Packet as KeptPacket}
-use Rattle.geo_world.specs.Standing.{IsSomeWorld}
-use Rattle.geo_world.specs.Arrivals.{batch_in}
-use Rattle.geo_world.specs.Regions.{Receives}
+use Rattle.geo_world.specs.inner.Standing.{IsSomeWorld}
+use Rattle.geo_world.specs.inner.Arrivals.{batch_in}
+use Rattle.geo_world.specs.inner.Regions.{Receives}
 use Rattle.geo_world.proofs.Asking.{region-stands, read-same}
 use Rattle.geo_world.proofs.Delivering.{packet-there, somewhere, known-makes, new-makes}
 use Rattle.geo_world.proofs.world.World.deliver_one.Goals as goal

@@ -5,7 +5,7 @@ use Rattle.write_set.specs.Overlay.{image_in}
 use Rattle.write_set.specs.declared.candidate.Candidate.{Candidate}
 use Rattle.geo_world.specs.declared.region.Region.{Region}
 use Rattle.geo_world.specs.Step.{put_candidate}
-use Rattle.geo_world.specs.Regions.{Takes}
+use Rattle.geo_world.specs.inner.Regions.{Takes}
 use Rattle.geo_base.specs.declared.cell.Cell.{Cell}
 use Rattle.geo_world.specs.Tables.{kv_cells}
 use Rattle.geo_world.proofs.OneTable.{kv_fitting, kv_named}

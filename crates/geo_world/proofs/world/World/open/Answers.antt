@@ -1,7 +1,7 @@
 -- All regions are new.
 use Rattle.std.proofs.Common.{◌+◌, ◌∷◌, ◌++◌, [], ℕ, refl, ap, ◌∙◌, arith}
 use Rattle.std.proofs.lemmas.List.Elements.{All-push, All-same}
-use Rattle.geo_world.specs.Regions.{IsNew}
+use Rattle.geo_world.specs.inner.Regions.{IsNew}
 use Rattle.geo_world.proofs.Opening.{opened-stands}
 use Rattle.geo_world.proofs.world.World.open.Goals as goal
 

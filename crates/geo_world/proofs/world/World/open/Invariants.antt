@@ -1,5 +1,5 @@
 use Rattle.std.proofs.Common.{◌≡◌, All, vec_len}
-use Rattle.geo_world.specs.Regions.{IsNew}
+use Rattle.geo_world.specs.inner.Regions.{IsNew}
 use Rattle.geo_world.proofs.world.World.open.Given as goal
 
 -- so many regions are there, all of them new

@@ -6,7 +6,7 @@ use Rattle.write_set.specs.Journal.{Epochs, candidates_of}
 use Rattle.write_set.specs.Plain.{IsMergeOf}
 use Rattle.write_set.specs.Merge.{verdicts, is_committed}
 use Rattle.geo_world.specs.declared.region.Region.{Region}
-use Rattle.geo_world.specs.Regions.{Publishes, next_batches}
+use Rattle.geo_world.specs.inner.Regions.{Publishes, next_batches}
 use Rattle.geo_world.proofs.Asking.{region-read, region-stands, read-same}
 use Rattle.geo_world.proofs.Standings.{regions-fit}
 use Rattle.geo_world.proofs.PublishingLemmas.{next-fits, read-ready, read-fits, region-waits-makes, published-makes}

@@ -1,7 +1,7 @@
 -- The batch that is sealed goes to every other region.
 use Rattle.std.proofs.Common.{◌≡◌, ◌-◌, ◌^◌, ◌<◌, ◌≤◌, refl, sym, ap, subst, ◌∙◌, length, ℕ, arith, string_bytes, vec_len}
 use Rattle.geo_world.specs.declared.region.Region.{Region}
-use Rattle.geo_world.specs.Regions.{Seals}
+use Rattle.geo_world.specs.inner.Regions.{Seals}
 use Rattle.geo_world.proofs.Asking.{region-read, region-stands, read-same}
 use Rattle.geo_world.proofs.Standings.{regions-fit}
 use Rattle.geo_world.proofs.SealingLemmas.{waiting-fits, log-some, last-batch, sealed-makes, on_ok_both}

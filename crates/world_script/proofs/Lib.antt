@@ -1,0 +1,9 @@
+mod Pieces
+mod Decimals
+mod EventTexts
+mod OneEvent
+mod LineTexts
+mod Faults
+mod OneText
+mod TextLaws
+mod ScriptTexts

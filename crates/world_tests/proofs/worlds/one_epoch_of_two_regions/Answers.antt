@@ -1,0 +1,6 @@
+-- The first world stands.
+use Rattle.geo_world.specs.World.{first_world}
+use Rattle.world_tests.proofs.worlds.one_epoch_of_two_regions.Goals as goal
+
+pub play-requires-clause-stands : goal.play-requires-clause-stands
+play-requires-clause-stands g c = (first_world 2 4294967294, c.in_ok-world.ensures.first)
