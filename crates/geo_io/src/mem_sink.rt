@@ -62,7 +62,7 @@ impl Sink for CleanSink {
 #[derive(Drop)]
 pub struct MemSink {
     sink: CleanSink,
-    plan: FailPlan,
+    plan: FailPlan<u64>,
 }
 
 impl Model for MemSink {

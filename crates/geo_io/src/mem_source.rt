@@ -75,7 +75,7 @@ impl Source for CleanSource {
 #[derive(Drop)]
 pub struct MemSource {
     source: CleanSource,
-    plan: FailPlan,
+    plan: FailPlan<u64>,
 }
 
 impl Model for MemSource {
