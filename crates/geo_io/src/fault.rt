@@ -3,6 +3,8 @@ ghost use Rattle.std.specs.Prelude.{◌≡◌};
 ghost use Rattle.geo_io.specs.declared.fault.IoFault.TheVariants as io_fault;
 
 use std::alloc::{AllocError, AllocFailed};
+use std::io;
+use std::io::ErrorKind;
 use thiserror::Error;
 
 /// The object that was called failed, and its count of faults rose.
@@ -41,5 +43,15 @@ impl<T: Drop> From<AllocFailed<T>> for IoFault {
 
     fn from(_: AllocFailed<T>) -> Self {
         IoFault::NoMemory
+    }
+}
+
+/// Want of memory is told apart from all else that goes wrong with a file.
+impl From<io::Error> for IoFault {
+    fn from(error: io::Error) -> Self {
+        match error.kind() {
+            ErrorKind::OutOfMemory => IoFault::NoMemory,
+            _ => IoFault::Failed,
+        }
     }
 }

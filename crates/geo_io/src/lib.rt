@@ -11,10 +11,13 @@
 
 mod clean_keepers;
 mod entries;
+mod entry_file;
 mod fail_plan;
 mod fault;
+mod folder_keepers;
 mod keepers;
 pub mod limits;
+mod log_folder;
 mod mem_keepers;
 mod mem_sink;
 mod mem_source;
@@ -28,6 +31,7 @@ pub use clean_keepers::CleanKeepers;
 pub use entries::{ByteList, Entries};
 pub use fail_plan::Fail;
 pub use fault::{Failed, IoFault};
+pub use folder_keepers::FolderKeepers;
 pub use keepers::Keepers;
 pub use limits::MAX_WIDTH;
 pub use mem_keepers::MemKeepers;

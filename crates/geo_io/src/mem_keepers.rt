@@ -120,9 +120,10 @@ impl Keepers for MemKeepers {
         let failed = fail.is_some() && appended.is_ok();
         self.plan.count(failed);
         if failed {
-            return Err(IoFault::Failed);
+            Err(IoFault::Failed)
+        } else {
+            appended
         }
-        appended
     }
 
     ghost use Rattle.std.proofs.Common.{rules};
