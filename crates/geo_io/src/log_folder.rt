@@ -59,15 +59,13 @@ impl<R: Files> LogFolder<R> {
     pub(crate) fn append(&mut self, region: u8, bytes: &[u8]) -> Result<(), IoFault>
         requires { region < MAX_WIDTH }
     {
-        let len = u32::try_from(bytes.len()).ok().ok_or(IoFault::Failed)?;
+        let len = u32::try_from(bytes.len()).map_err(|_| IoFault::Failed)?;
         let mut places = self.take_places(region)?;
         let begin = places.end();
         places.add(len)?;
         let path = self.path(region)?;
         let mut file = open_to_write(&self.rt, path.as_path(), true)?;
-        write_entry(&mut file, begin, len, bytes)
-            .ok()
-            .ok_or(IoFault::Failed)?;
+        write_entry(&mut file, begin, len, bytes).map_err(|_| IoFault::Failed)?;
         self.places[region as usize] = Some(places);
         Ok(())
     }
