@@ -1,11 +1,11 @@
 -- Seats are brought together: the whole has what each of them had.
-use Rattle.std.proofs.Common.{◌≡◌, ⊎_elim, ℕ, zero, suc, ◌<◌, ◌≤◌, nat_lt, Bool, true, false, cond, Option, None, Some, List, [], ◌∷◌, length, map, All, Contains, refl, sym, ap, ◌∙◌, arith}
-use Rattle.std.specs.Prelude.{sum_by, slice_index_or}
+use Rattle.std.proofs.Common.{◌≡◌, ⊎_elim, ℕ, zero, suc, ◌<◌, ◌≤◌, nat_lt, Bool, true, false, cond, Option, None, Some, List, [], ◌∷◌, ◌++◌, length, map, All, Contains, refl, sym, ap, ◌∙◌, arith}
+use Rattle.std.specs.Prelude.{sum, sum_by, slice_index_or, slice_set}
 use Rattle.std.specs.List.{slice_get, AllByRecursion}
 use Rattle.std.specs.Option.{option_map}
 use Rattle.std.proofs.lemmas.Bool.Decides.{nat_tests}
-use Rattle.std.proofs.lemmas.Option.{none-some}
-use Rattle.std.proofs.lemmas.List.Sums.{sum_by-cons}
+use Rattle.std.proofs.lemmas.Option.{none-some, slice_get_within, get_or_from_slice_get}
+use Rattle.std.proofs.lemmas.List.Sums.{sum_by-cons, sum_by-append, sum_by-set, sum-map}
 use Rattle.std.proofs.lemmas.List.{length-append, length-map}
 use Rattle.std.proofs.lemmas.List.Elements.{All-head, All-tail, All-contains, All-from_recursion}
 use Rattle.write_set.specs.Journal.{Placed}
@@ -89,16 +89,6 @@ more_whole taken whole other new is joined apart = record {
     by : (ts : List WorkerSeat) → ((s : WorkerSeat) → Contains ts s → Contains taken s) → AllByRecursion (λ (s : WorkerSeat). DrewApart (work_of other) (work_of s)) ts
     by [] all = tt
     by (t ∷ ts) all = (one t (all t (among_first t ts)), by ts (λ s h. all s (among_later t s ts h)))
-
--- a seat that shows what it has drawn has what it had
-pub settled_whole : (seats : List WorkerSeat) (whole new : WorkerSeat) → work_of new ≡ work_of whole → IsWhole seats whole → IsWhole seats new
-settled_whole seats whole new same is = record {
-  claimed = λ x. ap (λ (v : ClaimView). times x v.claiming.numbers) same ∙ is.claimed x;
-  judged = λ x. ap (λ (v : ClaimView). times x v.judging.numbers) same ∙ is.judged x;
-  shares = ap (λ (v : ClaimView). v.shares) same ∙ is.shares;
-  late = ap (λ (v : ClaimView). length v.judging.late) same ∙ is.late;
-  apart = is.apart;
-}
 
 -- where the whole drew no number twice, none of the seats did
 pub once_each : (seats : List WorkerSeat) (whole : WorkerSeat) → IsWhole seats whole → IsOnce (work_of whole) → All (λ seat. IsOnce (work_of seat)) seats
@@ -230,10 +220,6 @@ holds_all round whole worker all settled late =
 
 -- ---- all seats
 
--- all seats are some
-pub some_seat : (round : Round) → AreAllSeats round [] → 0 < workers_of round.table → ⊥
-some_seat round all some_worker = absurd (omega arith)
-
 -- seats of one share each, as many as workers, are all
 pub new_seats : (round : Round) (seats : List WorkerSeat) → All (IsNewWorkerOf round) seats → length seats ≡ workers_of round.table → AreAllSeats round seats
 new_seats round seats new count = by seats new ∙ count
@@ -244,3 +230,24 @@ new_seats round seats new count = by seats new ∙ count
         let one : (work_of t).shares ≡ 1 = ap (λ (v : ClaimView). v.shares) (All-head (IsNewWorkerOf round) t ts new).work in
         let rest : sum_by (λ (seat : WorkerSeat). (work_of seat).shares) ts ≡ length ts = by ts (All-tail (IsNewWorkerOf round) t ts new) in
         omega (arith, sum_by-cons (λ (seat : WorkerSeat). (work_of seat).shares) t ts)
+
+-- a seat in the place of another that has as many shares
+pub placed_seat : (round : Round) (seats : List WorkerSeat) (place : ℕ) (old new : WorkerSeat) → slice_get seats place ≡ Some old → (work_of new).shares ≡ (work_of old).shares →
+    AreAllSeats round seats → AreAllSeats round (slice_set seats place new)
+placed_seat round seats place old new at same all =
+    let within = slice_get_within seats place old at in
+    let was : (work_of (slice_index_or seats place old)).shares ≡ (work_of old).shares = ap (λ (seat : WorkerSeat). (work_of seat).shares) (get_or_from_slice_get seats place old old at) in
+    let changed = sum_by-set (λ (seat : WorkerSeat). (work_of seat).shares) seats place new old within in
+    omega arith
+
+pub seat_between : (round : Round) (front back : List WorkerSeat) (old new : WorkerSeat) → (work_of new).shares ≡ (work_of old).shares →
+    AreAllSeats round (front ++ old ∷ back) → AreAllSeats round (front ++ new ∷ back)
+seat_between round front back old new same all =
+    let before = sum_by-append (λ (seat : WorkerSeat). (work_of seat).shares) front (old ∷ back) in
+    let after = sum_by-append (λ (seat : WorkerSeat). (work_of seat).shares) front (new ∷ back) in
+    omega (arith, sum_by-cons (λ (seat : WorkerSeat). (work_of seat).shares) old back, sum_by-cons (λ (seat : WorkerSeat). (work_of seat).shares) new back)
+
+pub each_seat : (round : Round) (olds news : List WorkerSeat) → map (λ seat. (work_of seat).shares) news ≡ map (λ seat. (work_of seat).shares) olds →
+    AreAllSeats round olds → AreAllSeats round news
+each_seat round olds news same all =
+    sym (sum-map (λ (seat : WorkerSeat). (work_of seat).shares) news) ∙ ap sum same ∙ sum-map (λ (seat : WorkerSeat). (work_of seat).shares) olds ∙ all

@@ -1,5 +1,5 @@
 //! The laws of rounds, each the contract of a function that does nothing.
-ghost use Rattle.std.specs.Prelude.{◌≡◌, ℕ, ◌+◌, ◌^◌, ◌<◌, ◌≤◌, true, Some, List, Contains, length};
+ghost use Rattle.std.specs.Prelude.{◌≡◌, ℕ, ◌+◌, ◌^◌, ◌<◌, ◌≤◌, true, Some, List, ◌∷◌, ◌++◌, map, Contains, length, slice_set};
 ghost use Rattle.std.specs.List.{slice_get};
 ghost use Rattle.geo_base.specs.declared.limits.TheConstants.{MAX_REGIONS};
 ghost use Rattle.geo_base.specs.declared.row_id.RowId.{RowId};
@@ -7,6 +7,9 @@ ghost use Rattle.write_set.specs.declared.batch.Batch.{Batch};
 ghost use Rattle.write_set.specs.Sets.{has_row};
 ghost use Rattle.write_set.specs.Journal.{Journal, Placed, AreBatches, batches_at, candidates_of, epochs_of};
 ghost use Rattle.write_set.specs.Merge.{last_change, verdicts};
+ghost use Rattle.merge_round.specs.declared.seat.WorkerSeat.{WorkerSeat};
+ghost use Rattle.merge_round.specs.Seats.{work_of};
+ghost use Rattle.merge_round.specs.Gathers.{AreAllSeats};
 ghost use Rattle.merge_round.specs.Rounds.{Round, AreClaims, FinalWordsDecide, IsRoundOf, rows_in, number_in, plan_by, plan_of, outcomes_of};
 
 /// The greatest word of a row decides as comparing each candidate with each other does: over candidates whose
@@ -32,4 +35,15 @@ pub fn numbers_name_rows()
     ensures row { (all : List Placed) (c : Placed) (row : RowId) → Contains all c → has_row row c.set ≡ true → slice_get (rows_in all) (number_in (rows_in all) row) ≡ Some row }
     ensures number { (all : List Placed) (number : ℕ) (row : RowId) → slice_get (rows_in all) number ≡ Some row → number_in (rows_in all) row ≡ number }
     ensures known { (all : List Placed) (row : RowId) → Contains (rows_in all) row → (c : Placed) × Contains all c × (has_row row c.set ≡ true) }
+{}
+
+/// Seats with equal shares serve for one another: where one takes the place of another, or each the place of one,
+/// they are all seats of a round as those before were.
+pub fn equal_shares_serve()
+    ensures placed { (round : Round) (seats : List WorkerSeat) (place : ℕ) (old new : WorkerSeat) → slice_get seats place ≡ Some old →
+        (work_of new).shares ≡ (work_of old).shares → AreAllSeats round seats → AreAllSeats round (slice_set seats place new) }
+    ensures between { (round : Round) (front back : List WorkerSeat) (old new : WorkerSeat) → (work_of new).shares ≡ (work_of old).shares →
+        AreAllSeats round (front ++ old ∷ back) → AreAllSeats round (front ++ new ∷ back) }
+    ensures each { (round : Round) (olds news : List WorkerSeat) → map (λ seat. (work_of seat).shares) news ≡ map (λ seat. (work_of seat).shares) olds →
+        AreAllSeats round olds → AreAllSeats round news }
 {}

@@ -9,7 +9,8 @@
 //!
 //! `specs/Rounds.antt` has the round, its plan of claims and its verdicts, `specs/Seats.antt` what a seat
 //! does and holds. The functions of `laws` say that the greatest word of a row decides as comparing does,
-//! that a round of a journal's epoch gives the journal's verdicts, and that numbers and rows name one another.
+//! that a round of a journal's epoch gives the journal's verdicts, that numbers and rows name one another, and
+//! that seats with equal shares serve for one another.
 #![tactic(auto)]
 
 mod claiming;
@@ -33,7 +34,9 @@ pub use fault::GatherFault;
 pub use input::{BatchList, RoundInput};
 pub use judged::Judged;
 pub use judging::Judgement;
-pub use laws::{final_words_decide, numbers_name_rows, rounds_judge_as_journals};
+pub use laws::{
+    equal_shares_serve, final_words_decide, numbers_name_rows, rounds_judge_as_journals,
+};
 pub use round::MergeRound;
 pub use seat::WorkerSeat;
 pub use verdict::Verdict;
