@@ -330,8 +330,12 @@ fn play(rows: u32, workers: u8) -> ([u128; 3], usize) {
     let (round, seats) = Round::new(batches, Never, workers);
     let made = Instant::now();
     let seats = thread::scope(|scope| {
-        let threads: Vec<_> = seats.into_iter().map(|seat| scope.spawn(|| round.work(seat))).collect();
-        threads.into_iter().map(|thread| thread.join().expect("a seat")).collect()
+        let mut others = seats.into_iter();
+        let own = others.next().expect("a seat");
+        let threads: Vec<_> = others.map(|seat| scope.spawn(|| round.work(seat))).collect();
+        let mut worked = vec![round.work(own)];
+        worked.extend(threads.into_iter().map(|thread| thread.join().expect("a seat")));
+        worked
     });
     let worked = Instant::now();
     let outcomes: Vec<Outcome> = round.gather(seats);
