@@ -5,11 +5,7 @@ use geo_io::{IoFault, Keepers};
 use std::alloc::Global;
 
 /// The entries of a region one behind the other, each with a bar behind it.
-pub fn entries<K: Keepers>(
-    alloc: Global,
-    keepers: &mut K,
-    region: u8,
-) -> Result<Vec<u8>, IoFault>
+pub fn entries<K: Keepers>(alloc: Global, keepers: &mut K, region: u8) -> Result<Vec<u8>, IoFault>
     requires { region < K.width keepers.old }
     ensures { K.width keepers.new ≡ K.width keepers.old }
 {

@@ -25,10 +25,22 @@ fn an_empty_folder_and_what_was_left_in_it(rt: HostRuntime) -> Result<(), Fail> 
         assert_eq!(rt; keepers.append(region, entry.as_bytes()), Ok(()));
     }
     let wanted = b"\0\0\0\x05first\0\0\0\0\0\0\0\x06second";
-    assert_eq!(rt; fs::read(&rt, log_path(&rt, &folder, 0)?)?.as_slice(), wanted.as_slice());
-    for mut reader in [keepers, FolderKeepers::new(rt.clone()?, alloc, folder.clone()?)] {
-        assert_eq!(rt; entries(alloc, &mut reader, 0)?.as_slice(), b"first||second|".as_slice());
-        assert_eq!(rt; entries(alloc, &mut reader, 7)?.as_slice(), b"other|".as_slice());
+    assert_eq!(rt;
+        fs::read(&rt, log_path(&rt, &folder, 0)?)?.as_slice(),
+        wanted.as_slice()
+    );
+    for mut reader in [
+        keepers,
+        FolderKeepers::new(rt.clone()?, alloc, folder.clone()?),
+    ] {
+        assert_eq!(rt;
+            entries(alloc, &mut reader, 0)?.as_slice(),
+            b"first||second|".as_slice()
+        );
+        assert_eq!(rt;
+            entries(alloc, &mut reader, 7)?.as_slice(),
+            b"other|".as_slice()
+        );
         assert_eq!(rt; reader.len(6), Ok(0));
     }
     assert!(rt; !fs::exists(&rt, log_path(&rt, &folder, 6)?)?);
@@ -52,12 +64,20 @@ fn a_cut_file_has_its_whole_entries(rt: HostRuntime) -> Result<(), Fail> {
         };
         fs::write(&rt, path.as_str(), &whole[..cut])?;
         let mut keepers = FolderKeepers::new(&rt, alloc, folder.clone()?);
-        assert_eq!(rt; entries(alloc, &mut keepers, 3)?.as_slice(), bytes.as_bytes(), "at {cut}");
+        assert_eq!(rt;
+            entries(alloc, &mut keepers, 3)?.as_slice(),
+            bytes.as_bytes(),
+            "at {cut}"
+        );
         assert_eq!(rt; fs::metadata(&rt, path.as_str())?.len(), end, "at {cut}");
         assert_eq!(rt; keepers.append(3, b"next"), Ok(()));
         let mut again = FolderKeepers::new(&rt, alloc, folder.clone()?);
         let wanted = format!(in alloc; "{bytes}next|")?;
-        assert_eq!(rt; entries(alloc, &mut again, 3)?.as_slice(), wanted.as_bytes(), "at {cut}");
+        assert_eq!(rt;
+            entries(alloc, &mut again, 3)?.as_slice(),
+            wanted.as_bytes(),
+            "at {cut}"
+        );
     }
     fs::remove_dir_all(&rt, folder.as_str())?;
     Ok(())

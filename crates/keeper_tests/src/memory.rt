@@ -39,13 +39,31 @@ fn each_call_fails_where_it_is_told(rt: HostRuntime) -> Result<(), test::Fail> {
     let kept = |call| Fail { call, kept: true };
     let rows = [
         ([dropped(4), dropped(5)], "Ok(4) Ok(()) Ok(2) 3 5 ||||||||"),
-        ([dropped(0), dropped(4)], "Err(Failed) Ok(()) Ok(2) 3 5 ||||||||"),
-        ([kept(1), dropped(4)], "Err(Failed) Ok(()) Ok(2) 3 5 ||||||||"),
-        ([dropped(2), dropped(4)], "Ok(4) Err(Failed) Ok(1) 3 ||||||||"),
+        (
+            [dropped(0), dropped(4)],
+            "Err(Failed) Ok(()) Ok(2) 3 5 ||||||||",
+        ),
+        (
+            [kept(1), dropped(4)],
+            "Err(Failed) Ok(()) Ok(2) 3 5 ||||||||",
+        ),
+        (
+            [dropped(2), dropped(4)],
+            "Ok(4) Err(Failed) Ok(1) 3 ||||||||",
+        ),
         ([dropped(2), kept(2)], "Ok(4) Err(Failed) Ok(1) 3 ||||||||"),
-        ([kept(2), dropped(2)], "Ok(4) Err(Failed) Ok(2) 3 5 ||||||||"),
-        ([kept(3), kept(1)], "Err(Failed) Ok(()) Err(Failed) 3 5 ||||||||"),
-        ([kept(1), kept(0)], "Err(Failed) Err(Failed) Ok(2) 3 5 ||||||||"),
+        (
+            [kept(2), dropped(2)],
+            "Ok(4) Err(Failed) Ok(2) 3 5 ||||||||",
+        ),
+        (
+            [kept(3), kept(1)],
+            "Err(Failed) Ok(()) Err(Failed) 3 5 ||||||||",
+        ),
+        (
+            [kept(1), kept(0)],
+            "Err(Failed) Err(Failed) Ok(2) 3 5 ||||||||",
+        ),
     ];
     for (fails, want) in rows {
         assert_eq!(rt; answers(alloc, &fails)?.as_str(), want);
