@@ -6,13 +6,12 @@ use std::alloc::Global;
 use std::test::Fail;
 
 /// The operators of one operand.
-fn unary(alloc: Global, word: &str, a: Expr) -> Result<Expr, Fail> {
-    let a = Boxed::new(alloc, a)?;
+fn unary(word: &str, a: Boxed<Expr>) -> Expr {
     match word {
-        "neg" => Ok(Expr::Neg(a)),
-        "not" => Ok(Expr::Not(a)),
-        "is_null" => Ok(Expr::IsNull(a, false)),
-        _ => Ok(Expr::IsNull(a, true)),
+        "neg" => Expr::Neg(a),
+        "not" => Expr::Not(a),
+        "is_null" => Expr::IsNull(a, false),
+        _ => Expr::IsNull(a, true),
     }
 }
 
@@ -39,19 +38,17 @@ fn test_of(word: &str) -> Option<Test> {
 }
 
 /// The operators of two operands.
-fn binary(alloc: Global, word: &str, a: Expr, b: Expr) -> Result<Expr, Fail> {
-    let a = Boxed::new(alloc, a)?;
-    let b = Boxed::new(alloc, b)?;
+fn binary(word: &str, a: Boxed<Expr>, b: Boxed<Expr>) -> Expr {
     if let Some(op) = op_of(word) {
-        return Ok(Expr::Arith(op, a, b));
+        return Expr::Arith(op, a, b);
     }
     if let Some(test) = test_of(word) {
-        return Ok(Expr::Cmp(test, a, b));
+        return Expr::Cmp(test, a, b);
     }
-    Ok(match word {
+    match word {
         "and" => Expr::And(a, b),
         _ => Expr::Or(a, b),
-    })
+    }
 }
 
 /// A literal, or a column.
@@ -69,21 +66,32 @@ fn operand(alloc: Global, word: &str) -> Result<Expr, Fail> {
     }))
 }
 
+fn is_unary(word: &str) -> bool {
+    matches!(word, "neg" | "not" | "is_null" | "is_not_null")
+}
+
+fn is_binary(word: &str) -> bool {
+    op_of(word).is_some() || test_of(word).is_some() || matches!(word, "and" | "or")
+}
+
+/// The last of those that wait for an operator.
+fn last(alloc: Global, waiting: &mut Vec<Expr>) -> Result<Boxed<Expr>, Fail> {
+    let last = waiting.pop().ok_or("an operator without operands")?;
+    Ok(Boxed::new(alloc, last)?)
+}
+
 /// Puts the word's expression onto those that wait for an operator.
 fn push_word(alloc: Global, waiting: &mut Vec<Expr>, word: &str) -> Result<(), Fail> {
-    match word {
-        "neg" | "not" | "is_null" | "is_not_null" => {
-            let a = waiting.pop().ok_or("an operator without an operand")?;
-            waiting.push(unary(alloc, word, a)?)?;
-        }
-        "=" | "<>" | "<" | "<=" | ">" | ">=" | "+" | "-" | "*" | "/" | "and" | "or" => {
-            let b = waiting.pop().ok_or("an operator without operands")?;
-            let a = waiting.pop().ok_or("an operator without a left operand")?;
-            waiting.push(binary(alloc, word, a, b)?)?;
-        }
-        _ => waiting.push(operand(alloc, word)?)?,
+    if is_unary(word) {
+        let a = last(alloc, waiting)?;
+        return Ok(waiting.push(unary(word, a))?);
     }
-    Ok(())
+    if is_binary(word) {
+        let b = last(alloc, waiting)?;
+        let a = last(alloc, waiting)?;
+        return Ok(waiting.push(binary(word, a, b))?);
+    }
+    Ok(waiting.push(operand(alloc, word)?)?)
 }
 
 fn expression(alloc: Global, words: &str) -> Result<Expr, Fail> {
