@@ -1,9 +1,9 @@
 -- What steps keep that are done for each item of a list.
-use Rattle.std.proofs.Common.{◌≡◌, ℕ, zero, suc, ◌+◌, ◌<◌, ◌⊎◌, inl, inr, Bool, true, false, Option, Some, List, [], ◌∷◌, ◌++◌, length, get_or, Result, Ok, refl, ap, subst, arith, length-append}
+use Rattle.std.proofs.Common.{◌≡◌, ℕ, zero, suc, ◌+◌, ◌<◌, ◌≤◌, ◌⊎◌, inl, inr, Bool, true, false, Option, Some, List, [], ◌∷◌, ◌++◌, length, drop, get_or, Result, Ok, Err, refl, sym, ◌∙◌, ap, subst, arith, length-append}
 use Rattle.std.specs.Prelude.{slice_get}
 use Rattle.std.specs.List.{All, list_any}
 use Rattle.std.proofs.lemmas.Bool.{both_ways, false_from_ne_true, cases_lt}
-use Rattle.std.proofs.lemmas.List.{get_or_append_left}
+use Rattle.std.proofs.lemmas.List.{get_or_append_left, at_drop_more, at_drop_all}
 use Rattle.std.proofs.lemmas.List.Folds.{list_any_at}
 use Rattle.std.proofs.Math.Seq.{get_or-append_seam}
 use Rattle.std.proofs.lemmas.List.Elements.{All-nil, All-cons, All-append}
@@ -70,3 +70,26 @@ module _ {A : Type 0} (same : A → A → Bool) where
 
 pub apart_none : {A : Type 0} (same : A → A → Bool) → AreApart same []
 apart_none same i j d before within = absurd (omega arith)
+
+-- ---- loops over a list: what is made of the items so far, and then the items that are left, come to the whole
+
+module _ {A B E : Type 0} (step : List B → A → Result B E) (items : List A) (whole : Result (List B) E) where
+  abbrev pub ComesTo : List B → ℕ → Type 0
+  ComesTo done place = each_behind step done (drop place items) ≡ whole
+
+  -- the next item is done
+  pub next_made : (done : List B) (place : ℕ) (item : A) (made : B) → place < length items → get_or items place item ≡ item → ComesTo done place → step done item ≡ Ok made →
+      ComesTo (done ++ made ∷ []) (place + 1)
+  next_made done place item made within at h is =
+      sym (at_drop_more (each_behind step done) items place item within ∙ rw (at, is) refl) ∙ h
+
+  -- the next item is refused
+  pub next_refused : (none fault : E) (done : List B) (place : ℕ) (item : A) → place < length items → get_or items place item ≡ item → ComesTo done place →
+      (fault ≡ none) ⊎ (step done item ≡ Err fault) → (fault ≡ none) ⊎ (whole ≡ Err fault)
+  next_refused none fault done place item within at h (inl is) = inl is
+  next_refused none fault done place item within at h (inr is) =
+      inr (sym h ∙ (at_drop_more (each_behind step done) items place item within ∙ rw (at, is) refl))
+
+  -- no item is left
+  pub none_left : (done : List B) (place : ℕ) → length items ≤ place → ComesTo done place → whole ≡ Ok done
+  none_left done place upto h = sym h ∙ at_drop_all (each_behind step done) items place upto

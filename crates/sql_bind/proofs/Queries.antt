@@ -1,9 +1,10 @@
 -- Bound queries: their tests, groups, items and what they sort by.
-use Rattle.std.proofs.Common.{◌≡◌, ℕ, ◌+◌, ◌<◌, ◌≤◌, Bool, true, false, not, ◌&&◌, ◌||◌, nat_eq, ◌==◌, if◌then◌else◌, Option, Some, None, List, [], ◌∷◌, ◌++◌, length, length-append, get_or, drop, Result, Ok, refl, sym, subst, ◌∙◌, arith}
+use Rattle.std.proofs.Common.{◌≡◌, ℕ, ◌+◌, ◌<◌, ◌≤◌, ◌⊎◌, inl, inr, Bool, true, false, not, ◌&&◌, ◌||◌, nat_eq, ◌==◌, if◌then◌else◌, Option, Some, None, List, [], ◌∷◌, ◌++◌, length, length-append, get_or, drop, Result, Ok, Err, refl, sym, subst, ◌∙◌, arith}
 use Rattle.std.specs.Prelude.{position, is_some, nat_le}
 use Rattle.std.specs.List.{All, list_any}
 use Rattle.std.proofs.lemmas.Bool.{and_parts, leb-true, both_ways, or_left, or_right}
 use Rattle.std.proofs.lemmas.Bool.Decides.{nat_tests}
+use Rattle.std.proofs.lemmas.List.{at_drop_more, at_drop_all}
 use Rattle.std.proofs.lemmas.List.Elements.{All-nil, All-append}
 use Rattle.std.proofs.lemmas.List.Quantifiers.{position-Some}
 use Rattle.std.proofs.lemmas.Option.{slice_get_within, slice_get-get_or}
@@ -38,12 +39,13 @@ use Rattle.sql_bind.specs.declared.fault.BindFault.TheVariants as fault
 use Rattle.sql_bind.specs.declared.names.Found.{Found}
 use Rattle.sql_bind.specs.declared.scope.Known.{Known}
 use Rattle.sql_bind.specs.declared.scope.Scope.{Scope}
+use Rattle.sql_bind.specs.declared.select.Lines.{Lines}
 use Rattle.sql_bind.specs.Conditions.{conjuncts, condition_of, filter_of}
 use Rattle.sql_bind.specs.Expressions.{of_any_type, taken_by}
 use Rattle.sql_bind.specs.Items.{is_aggregate, has_aggregate, item_of, next_star, star_of, listed, items_of}
 use Rattle.sql_bind.specs.Names.{known_columns, column_types, is_allowed, column_meant}
 use Rattle.sql_bind.specs.Orders.{has_alias, written_items, only_item, item_meant, item_or_column, sort_of, order_of}
-use Rattle.sql_bind.specs.Selects.{from_of, on_of, once, group_behind, is_grouped, only_group, plain_of, tests_of, numbers_in, numbers_of, select_of, lock_of}
+use Rattle.sql_bind.specs.Selects.{from_of, on_of, once, group_behind, is_grouped, only_group, plain_scope, tests_of, numbers_in, numbers_of, lines_in, lines_of, query_in, select_of, lock_of}
 use Rattle.sql_bind.specs.Sound.{types_of, HasType, IsTest, IsItem, is_plain, is_of_columns, IsItemWithin, IsSortOf, IsSortWithin, IsSoundSelect, IsSoundLock}
 use Rattle.sql_bind.specs.Steps.{◌>>◌, refused_if, refused_unless, each_behind}
 use Rattle.sql_bind.proofs.Conjuncts.{all_tests}
@@ -97,7 +99,7 @@ module _ (tables : Tables) (scope : Scope) where
   IsColumnNo place = place < length (scope_types tables scope)
 
   pub column_within : (column : ColRef) (found : Found) → column_meant tables scope column ≡ Ok found → IsColumnNo found.place
-  column_within column found h = slice_get_within (scope_types tables scope) found.place found.of (column_allowed tables scope column found h).column
+  column_within column found h = slice_get_within (scope_types tables scope) found.place found.value_type (column_allowed tables scope column found h).column
 
   added : (group : List ℕ) (place : ℕ) (b : Bool) → All IsColumnNo group → IsColumnNo place → All IsColumnNo (if b then group else group ++ place ∷ [])
   added group place true all here = all
@@ -119,11 +121,30 @@ module _ (tables : Tables) (scope : Scope) where
       let p = bind_ok (column_meant tables scope column) (λ found. group_behind tables scope (once group found.place) columns) out h in
       group_apart (once group p.0.place) columns out (once_apart group p.0.place (is_in group p.0.place) refl apart) p.2
 
+-- a loop over the columns of GROUP BY: the columns so far, and then those that are left, come to the whole
+module _ (tables : Tables) (scope : Scope) (columns : List ColRef) (whole : Result (List ℕ) BindFault) where
+  abbrev pub GroupsTo : List ℕ → ℕ → Type 0
+  GroupsTo group place = group_behind tables scope group (drop place columns) ≡ whole
+
+  pub next_grouped : (group : List ℕ) (place : ℕ) (column : ColRef) (found : Found) → place < length columns → get_or columns place column ≡ column → GroupsTo group place →
+      column_meant tables scope column ≡ Ok found → GroupsTo (once group found.place) (place + 1)
+  next_grouped group place column found within at h is =
+      sym (at_drop_more (group_behind tables scope group) columns place column within ∙ rw (at, is) refl) ∙ h
+
+  pub group_refused : (none fault : BindFault) (group : List ℕ) (place : ℕ) (column : ColRef) → place < length columns → get_or columns place column ≡ column → GroupsTo group place →
+      (fault ≡ none) ⊎ (column_meant tables scope column ≡ Err fault) → (fault ≡ none) ⊎ (whole ≡ Err fault)
+  group_refused none fault group place column within at h (inl is) = inl is
+  group_refused none fault group place column within at h (inr is) =
+      inr (sym h ∙ (at_drop_more (group_behind tables scope group) columns place column within ∙ rw (at, is) refl))
+
+  pub whole_group : (group : List ℕ) (place : ℕ) → length columns ≤ place → GroupsTo group place → whole ≡ Ok group
+  whole_group group place upto h = sym h ∙ at_drop_all (group_behind tables scope group) columns place upto
+
 -- ---- items
 
 module _ (tables : Tables) (scope : Scope) (grouped : Bool) (group : List ℕ) where
   abbrev pub plain : Scope
-  plain = plain_of grouped group scope
+  plain = plain_scope grouped group scope
 
   abbrev pub columns : List ValueType
   columns = scope_types tables scope
@@ -278,7 +299,7 @@ module _ (tables : Tables) (scope : Scope) (grouped : Bool) (group : List ℕ) w
   by_good list items column None b few is h =
       let p = bind_ok (column_meant tables plain column) (λ found. Ok (by.Column found.place)) b h in
       let a = column_allowed tables plain column p.0 p.1 in
-      subst (IsGoodBy items) (ok_is (by.Column p.0.place) b p.2) (slice_get_within columns p.0.place p.0.of a.column, λ is. grouped_only grouped p.0.place a.group is)
+      subst (IsGoodBy items) (ok_is (by.Column p.0.place) b p.2) (slice_get_within columns p.0.place p.0.value_type a.column, λ is. grouped_only grouped p.0.place a.group is)
     where
       grouped_only : (g : Bool) (place : ℕ) → is_allowed (only_group g group) place ≡ true → g ≡ true → is_allowed (Some group) place ≡ true
       grouped_only true place a is = a
@@ -330,7 +351,7 @@ module _ (tables : Tables) (select : SelectStmt) (scope : Scope) (from : IsFrom 
   over P p = subst P (sym same) p
 
   bound_query : (tests : List Expr) (group : List ℕ) (items : List Item) (order : List Sort) → tests_of tables scope select ≡ Ok tests → group_behind tables scope [] select.group ≡ Ok group →
-      items_of tables scope (plain_of (is_grouped select) group scope) select.items ≡ Ok items → order_of tables (plain_of (is_grouped select) group scope) (written_items select.items) select.order ≡ Ok order →
+      items_of tables scope (plain_scope (is_grouped select) group scope) select.items ≡ Ok items → order_of tables (plain_scope (is_grouped select) group scope) (written_items select.items) select.order ≡ Ok order →
       IsBoundQuery tables select (record { tables = numbers_of scope; tests = tests; grouped = is_grouped select; group = group; items = items; order = order; limit = select.limit })
   bound_query tests group items order t g i o =
       let grouped = is_grouped select in
@@ -354,16 +375,31 @@ module _ (tables : Tables) (select : SelectStmt) (scope : Scope) (from : IsFrom 
         one = alone;
       }
 
+-- the items and what is sorted by, one by one
+lines_made : (tables : Tables) (scope plain : Scope) (select : SelectStmt) (lines : Lines) → lines_in tables scope plain select ≡ Ok lines →
+    (items_of tables scope plain select.items ≡ Ok lines.items) × (order_of tables plain (written_items select.items) select.order ≡ Ok lines.order)
+unfolding lines_in
+lines_made tables scope plain select lines h =
+    let i = bind_ok (items_of tables scope plain select.items) _ lines h in
+    let o = bind_ok (order_of tables plain (written_items select.items) select.order) _ lines i.2 in
+    subst (λ (l : Lines). (items_of tables scope plain select.items ≡ Ok l.items) × (order_of tables plain (written_items select.items) select.order ≡ Ok l.order))
+    (ok_is (record { items = i.0; order = o.0 }) lines o.2) (i.1, o.1)
+
+query_made : (tables : Tables) (select : SelectStmt) (scope : Scope) (b : BoundSelect) → IsFrom tables select scope → query_in tables scope select ≡ Ok b → IsBoundQuery tables select b
+unfolding query_in lines_of
+query_made tables select scope b from h =
+    let t = bind_ok (tests_of tables scope select) _ b h in
+    let g = bind_ok (group_behind tables scope [] select.group) _ b t.2 in
+    let l = bind_ok (lines_of tables scope g.0 select) _ b g.2 in
+    let m = lines_made tables scope (plain_scope (is_grouped select) g.0 scope) select l.0 l.1 in
+    subst (IsBoundQuery tables select) (ok_is (record { tables = numbers_of scope; tests = t.0; grouped = is_grouped select; group = g.0; items = l.0.items; order = l.0.order; limit = select.limit }) b l.2)
+    (bound_query tables select scope from t.0 g.0 l.0.items l.0.order t.1 g.1 m.0 m.1)
+
 pub query_bound : (tables : Tables) (select : SelectStmt) (b : BoundSelect) → select_of tables select ≡ Ok b → IsBoundQuery tables select b
 unfolding select_of
 query_bound tables select b h =
     let p = bind_ok (from_of tables select) _ b h in
-    let t = bind_ok (tests_of tables p.0 select) _ b p.2 in
-    let g = bind_ok (group_behind tables p.0 [] select.group) _ b t.2 in
-    let i = bind_ok (items_of tables p.0 (plain_of (is_grouped select) g.0 p.0) select.items) _ b g.2 in
-    let o = bind_ok (order_of tables (plain_of (is_grouped select) g.0 p.0) (written_items select.items) select.order) _ b i.2 in
-    subst (IsBoundQuery tables select) (ok_is (record { tables = numbers_of p.0; tests = t.0; grouped = is_grouped select; group = g.0; items = i.0; order = o.0; limit = select.limit }) b o.2)
-    (bound_query tables select p.0 (is_from tables select p.0 p.1) t.0 g.0 i.0 o.0 t.1 g.1 i.1 o.1)
+    query_made tables select p.0 b (is_from tables select p.0 p.1) p.2
 
 -- a query that locks
 pub lock_bound : (tables : Tables) (select : SelectStmt) (b : BoundSelect) → lock_of tables select ≡ Ok b → IsSoundLock tables b

@@ -51,10 +51,10 @@ use Rattle.sql_bind.specs.Inserts.{listed_column, listed_columns, next_value, ro
 use Rattle.sql_bind.specs.Items.{item_of, star_item, next_star, star_of, listed, items_of}
 use Rattle.sql_bind.specs.Names.{table_named, known_of, columns_of, known_columns, type_at, place_named, column_named, found_in, only_one, found_of, is_allowed, column_meant, alone, nowhere}
 use Rattle.sql_bind.specs.Orders.{has_alias, written_items, only_item, item_meant, item_or_column, sort_of, order_of}
-use Rattle.sql_bind.specs.Selects.{second_of, different, from_of, on_of, once, group_behind, is_grouped, plain_of, tests_of, select_of, lock_of}
+use Rattle.sql_bind.specs.Selects.{second_of, different, from_of, on_of, once, group_behind, is_grouped, plain_scope, tests_of, lines_in, lines_of, query_in, select_of, lock_of}
 use Rattle.sql_bind.specs.Statements.{is_of_tables, bound_of}
 use Rattle.sql_bind.specs.Steps.{◌>>◌, refused_if, refused_unless, each_behind}
-use Rattle.sql_bind.specs.Updates.{is_set, column_behind, set_behind, update_of}
+use Rattle.sql_bind.specs.Updates.{update_in, is_set, column_behind, set_behind, update_of}
 use Rattle.sql_bind.proofs.Levels as levels
 
 -- a fault that isn't want of memory
@@ -158,7 +158,7 @@ module _ (tables : Tables) where
     unfolding taken_by
     taken_clean wanted a =
         then (expression_of tables scope a) _ (expression_clean a)
-        (λ x. behind (refused_unless (takes wanted x.of) fault.TypeClash) (Ok x.expr) (unless_clean (takes wanted x.of) fault.TypeClash tt) tt)
+        (λ x. behind (refused_unless (takes wanted x.value_type) fault.TypeClash) (Ok x.expr) (unless_clean (takes wanted x.value_type) fault.TypeClash tt) tt)
 
     any_clean : (a : Ast) → Clean (of_any_type tables scope a)
     unfolding of_any_type
@@ -243,15 +243,23 @@ module _ (tables : Tables) where
       then (item_meant list order.column.table order.column.name) _ (meant_clean list order.column.table order.column.name)
       (λ item. then (item_or_column tables plain order.column item) _ (by_clean plain order.column item) (λ _. tt))
 
-  select_clean : (select : SelectStmt) → Clean (select_of tables select)
-  unfolding select_of
-  select_clean select =
-      then (from_of tables select) _ (from_clean select) (λ scope.
+  lines_clean : (scope plain : Scope) (select : SelectStmt) → Clean (lines_in tables scope plain select)
+  unfolding lines_in
+  lines_clean scope plain select =
+      then (items_of tables scope plain select.items) _ (items_clean scope plain select.items) (λ _.
+      then (order_of tables plain (written_items select.items) select.order) _
+      (each_clean (λ _. sort_of tables plain (written_items select.items)) (λ _ o. sort_clean plain (written_items select.items) o) [] select.order) (λ _. tt))
+
+  query_clean : (scope : Scope) (select : SelectStmt) → Clean (query_in tables scope select)
+  unfolding query_in lines_of
+  query_clean scope select =
       then (tests_of tables scope select) _ (tests_clean scope select) (λ _.
       then (group_behind tables scope [] select.group) _ (group_clean scope [] select.group) (λ group.
-      then (items_of tables scope (plain_of (is_grouped select) group scope) select.items) _ (items_clean scope (plain_of (is_grouped select) group scope) select.items) (λ _.
-      then (order_of tables (plain_of (is_grouped select) group scope) (written_items select.items) select.order) _
-      (each_clean (λ _. sort_of tables (plain_of (is_grouped select) group scope) (written_items select.items)) (λ _ o. sort_clean (plain_of (is_grouped select) group scope) (written_items select.items) o) [] select.order) (λ _. tt)))))
+      then (lines_of tables scope group select) _ (lines_clean scope (plain_scope (is_grouped select) group scope) select) (λ _. tt)))
+
+  select_clean : (select : SelectStmt) → Clean (select_of tables select)
+  unfolding select_of
+  select_clean select = then (from_of tables select) _ (from_clean select) (λ scope. query_clean scope select)
 
   lock_clean : (select : SelectStmt) → Clean (lock_of tables select)
   unfolding lock_of
@@ -272,15 +280,15 @@ module _ (tables : Tables) where
   columns_clean columns [] = tt
   columns_clean columns (name ∷ names) = each_clean (listed_column columns) (listed_column_clean columns) [] (name ∷ names)
 
-  row_clean : (types : List ValueType) (row : AstRow) → Clean (row_of tables types row)
+  row_clean : (scope : Scope) (types : List ValueType) (row : AstRow) → Clean (row_of tables scope types row)
   unfolding row_of
-  row_clean types row =
+  row_clean scope types row =
       behind (refused_unless (length row.values == length types) fault.WrongCount) _ (unless_clean (length row.values == length types) fault.WrongCount tt)
-      (then (each_behind (next_value tables types) [] row.values) _ (each_clean (next_value tables types) (λ done v. taken_clean nowhere (slice_index_or types (length done) type.Any) v) [] row.values) (λ _. tt))
+      (then (each_behind (next_value tables scope types) [] row.values) _ (each_clean (next_value tables scope types) (λ done v. taken_clean scope (slice_index_or types (length done) type.Any) v) [] row.values) (λ _. tt))
 
   rows_clean : (columns : List ColumnDef) (places : List ℕ) (rows : List AstRow) → Clean (rows_of tables columns places rows)
   unfolding rows_of
-  rows_clean columns places rows = each_clean (λ _. row_of tables (map (type_at columns) places)) (λ _ row. row_clean (map (type_at columns) places) row) [] rows
+  rows_clean columns places rows = each_clean (λ _. row_of tables nowhere (map (type_at columns) places)) (λ _ row. row_clean nowhere (map (type_at columns) places) row) [] rows
 
   insert_clean : (insert : InsertStmt) → Clean (insert_of tables insert)
   unfolding insert_of
@@ -302,12 +310,16 @@ module _ (tables : Tables) where
       then (column_behind table.columns table.key before set.column) _ (set_column_clean table.columns table.key before set.column)
       (λ place. then (taken_by (type_at table.columns place) tables scope set.value) _ (taken_clean scope (type_at table.columns place) set.value) (λ _. tt))
 
+  update_in_clean : (scope : Scope) (table : ℕ) (update : UpdateStmt) → Clean (update_in tables scope table update)
+  unfolding update_in
+  update_in_clean scope table update =
+      then (each_behind (set_behind tables scope (table_at tables table)) [] update.sets) _ (each_clean (set_behind tables scope (table_at tables table)) (set_clean scope (table_at tables table)) [] update.sets) (λ _.
+      then (filter_of tables scope update.filter) _ (filter_clean scope update.filter) (λ _. tt))
+
   update_clean : (update : UpdateStmt) → Clean (update_of tables update)
   unfolding update_of
   update_clean update =
-      then (table_named tables update.table) _ (named_clean update.table) (λ table.
-      then (each_behind (set_behind tables (alone update.table table) (table_at tables table)) [] update.sets) _ (each_clean (set_behind tables (alone update.table table) (table_at tables table)) (λ before set. set_clean (alone update.table table) (table_at tables table) before set) [] update.sets) (λ _.
-      then (filter_of tables (alone update.table table) update.filter) _ (filter_clean (alone update.table table) update.filter) (λ _. tt)))
+      then (table_named tables update.table) _ (named_clean update.table) (λ table. update_in_clean (alone update.table table) table update)
 
   delete_clean : (delete : DeleteStmt) → Clean (delete_of tables delete)
   unfolding delete_of

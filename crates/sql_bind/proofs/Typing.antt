@@ -101,7 +101,7 @@ module _ (tables : Tables) (scope : Scope) where
 
   -- the column has a number among those of the tables, and its type
   abbrev pub IsColumn : Found → Type 0
-  IsColumn found = slice_get scope_types found.place ≡ Some found.of
+  IsColumn found = slice_get scope_types found.place ≡ Some found.value_type
 
   from_left : (found : Found) → IsFoundIn 0 left_columns found → IsColumn found
   from_left found r =
@@ -161,24 +161,24 @@ within_both (Some g) a b c e v w = e g ∙ and_from (is_of_columns g a) (is_of_c
 module _ (columns : List ValueType) (group : Option (List ℕ)) where
   -- the expression has its type, and its columns may stand there
   pub record Fits (t : Typed) : Type 0 where
-    pub type : type_of columns t.expr ≡ Some t.of
+    pub type : type_of columns t.expr ≡ Some t.value_type
     pub within : IsWithin group t.expr
 
   by_operator : (o : Option ValueType) (e : Expr) (t : Typed) → operator o e ≡ Ok t → type_of columns e ≡ o → IsWithin group e → Fits t
   by_operator None e t h same within = absurd cc
   by_operator (Some u) e t h same within = subst Fits (ok_is (typed e u) t h) (record { type = same; within = within })
 
-  both_types : (rule : ValueType → ValueType → Option ValueType) (a b : Typed) → Fits a → Fits b → of_both rule (type_of columns a.expr) (type_of columns b.expr) ≡ rule a.of b.of
+  both_types : (rule : ValueType → ValueType → Option ValueType) (a b : Typed) → Fits a → Fits b → of_both rule (type_of columns a.expr) (type_of columns b.expr) ≡ rule a.value_type b.value_type
   both_types rule a b f g = rw (f.type, g.type) refl
 
   negated_fits : (x t : Typed) → Fits x → negated x ≡ Ok t → Fits t
   negated_fits x t f h =
-      by_operator (one_operand type.Int x.of) (expr.Neg x.expr) t h (levels.type_neg columns x.expr ∙ ap (option_and_then (one_operand type.Int)) f.type)
+      by_operator (one_operand type.Int x.value_type) (expr.Neg x.expr) t h (levels.type_neg columns x.expr ∙ ap (option_and_then (one_operand type.Int)) f.type)
       (within_same group x.expr (expr.Neg x.expr) (λ g. levels.within_neg g x.expr) f.within)
 
   denied_fits : (x t : Typed) → Fits x → denied x ≡ Ok t → Fits t
   denied_fits x t f h =
-      by_operator (one_operand type.Truth x.of) (expr.Not x.expr) t h (levels.type_not columns x.expr ∙ ap (option_and_then (one_operand type.Truth)) f.type)
+      by_operator (one_operand type.Truth x.value_type) (expr.Not x.expr) t h (levels.type_not columns x.expr ∙ ap (option_and_then (one_operand type.Truth)) f.type)
       (within_same group x.expr (expr.Not x.expr) (λ g. levels.within_not g x.expr) f.within)
 
   null_test_fits : (x : Typed) (is_not : Bool) → Fits x → Fits (null_test x is_not)
@@ -187,14 +187,14 @@ module _ (columns : List ValueType) (group : Option (List ℕ)) where
     within = within_same group x.expr (expr.IsNull x.expr is_not) (λ g. levels.within_null_test g x.expr is_not) f.within;
   }
 
-  calculation_fits : (o : Op) (x y t : Typed) → Fits x → Fits y → operator (two_operands type.Int x.of y.of) (expr.Arith o x.expr y.expr) ≡ Ok t → Fits t
+  calculation_fits : (o : Op) (x y t : Typed) → Fits x → Fits y → operator (two_operands type.Int x.value_type y.value_type) (expr.Arith o x.expr y.expr) ≡ Ok t → Fits t
   calculation_fits o x y t f g h =
-      by_operator (two_operands type.Int x.of y.of) (expr.Arith o x.expr y.expr) t h (levels.type_arithmetic columns o x.expr y.expr ∙ both_types (two_operands type.Int) x y f g)
+      by_operator (two_operands type.Int x.value_type y.value_type) (expr.Arith o x.expr y.expr) t h (levels.type_arithmetic columns o x.expr y.expr ∙ both_types (two_operands type.Int) x y f g)
       (within_both group x.expr y.expr _ (λ l. levels.within_arithmetic l o x.expr y.expr) f.within g.within)
 
-  compared_fits : (o : Test) (x y t : Typed) → Fits x → Fits y → operator (comparison x.of y.of) (expr.Cmp o x.expr y.expr) ≡ Ok t → Fits t
+  compared_fits : (o : Test) (x y t : Typed) → Fits x → Fits y → operator (comparison x.value_type y.value_type) (expr.Cmp o x.expr y.expr) ≡ Ok t → Fits t
   compared_fits o x y t f g h =
-      by_operator (comparison x.of y.of) (expr.Cmp o x.expr y.expr) t h (levels.type_comparison columns o x.expr y.expr ∙ both_types comparison x y f g)
+      by_operator (comparison x.value_type y.value_type) (expr.Cmp o x.expr y.expr) t h (levels.type_comparison columns o x.expr y.expr ∙ both_types comparison x y f g)
       (within_both group x.expr y.expr _ (λ l. levels.within_comparison l o x.expr y.expr) f.within g.within)
 
   joined_fits : (o : AstOp) (x y t : Typed) → Fits x → Fits y → joined o x y ≡ Ok t → Fits t
@@ -209,10 +209,10 @@ module _ (columns : List ValueType) (group : Option (List ℕ)) where
   joined_fits written.More x y t f g h = compared_fits test.More x y t f g h
   joined_fits written.MoreEqual x y t f g h = compared_fits test.MoreEqual x y t f g h
   joined_fits written.And x y t f g h =
-      by_operator (two_operands type.Truth x.of y.of) (expr.And x.expr y.expr) t h (levels.type_and columns x.expr y.expr ∙ both_types (two_operands type.Truth) x y f g)
+      by_operator (two_operands type.Truth x.value_type y.value_type) (expr.And x.expr y.expr) t h (levels.type_and columns x.expr y.expr ∙ both_types (two_operands type.Truth) x y f g)
       (within_both group x.expr y.expr _ (λ l. levels.within_and l x.expr y.expr) f.within g.within)
   joined_fits written.Or x y t f g h =
-      by_operator (two_operands type.Truth x.of y.of) (expr.Or x.expr y.expr) t h (levels.type_or columns x.expr y.expr ∙ both_types (two_operands type.Truth) x y f g)
+      by_operator (two_operands type.Truth x.value_type y.value_type) (expr.Or x.expr y.expr) t h (levels.type_or columns x.expr y.expr ∙ both_types (two_operands type.Truth) x y f g)
       (within_both group x.expr y.expr _ (λ l. levels.within_or l x.expr y.expr) f.within g.within)
 
 -- ---- expressions
@@ -238,7 +238,7 @@ module _ (tables : Tables) (scope : Scope) where
       let p = bind_ok (column_meant tables scope name) _ t (sym (levels.of_column tables scope name) ∙ h) in
       let found = p.0 in
       let r = column_allowed tables scope name found p.1 in
-      subst IsFitting (ok_is (typed (expr.Col found.place) found.of) t p.2) (record {
+      subst IsFitting (ok_is (typed (expr.Col found.place) found.value_type) t p.2) (record {
         type = levels.type_column (scope_types tables scope) found.place ∙ r.column;
         within = column_within scope.group found.place r.group;
       })
@@ -288,7 +288,7 @@ module _ (tables : Tables) (scope : Scope) where
   any_fits a e h =
       let p = bind_ok (expression_of tables scope a) (λ x. Ok x.expr) e h in
       let f = fitting a p.0 p.1 in
-      subst IsBoundTo (ok_is p.0.expr e p.2) (record { type = record { type = p.0.of; is = f.type }; within = f.within })
+      subst IsBoundTo (ok_is p.0.expr e p.2) (record { type = record { type = p.0.value_type; is = f.type }; within = f.within })
 
   taken : (b : Bool) (x e : Expr) → (let r : Result Expr BindFault = refused_unless b fault.TypeClash >> Ok x in r ≡ Ok e) → (b ≡ true) × (x ≡ e)
   taken true x e h = (refl, ok_is x e h)
@@ -298,6 +298,6 @@ module _ (tables : Tables) (scope : Scope) where
   unfolding taken_by
   taken_fits wanted a e h =
       let p = bind_ok (expression_of tables scope a) _ e h in
-      let q = taken (takes wanted p.0.of) p.0.expr e p.2 in
+      let q = taken (takes wanted p.0.value_type) p.0.expr e p.2 in
       let f = fitting a p.0 p.1 in
-      subst (IsTypedFor wanted (scope_types tables scope)) q.1 (record { type = p.0.of; is = f.type; taken = q.0 })
+      subst (IsTypedFor wanted (scope_types tables scope)) q.1 (record { type = p.0.value_type; is = f.type; taken = q.0 })

@@ -40,7 +40,7 @@ use Rattle.sql_bind.specs.Inserts.{listed_column, listed_columns, next_value, ro
 use Rattle.sql_bind.specs.Names.{table_named, columns_of, type_at, place_named, column_named, alone, nowhere}
 use Rattle.sql_bind.specs.Sound.{IsTypedFor, IsSoundRow, IsSoundInsert, IsSoundSet, same_set, IsSoundUpdate, IsSoundDelete}
 use Rattle.sql_bind.specs.Steps.{◌>>◌, refused_if, refused_unless, each_behind}
-use Rattle.sql_bind.specs.Updates.{is_set, column_behind, set_behind, update_of}
+use Rattle.sql_bind.specs.Updates.{is_set, column_behind, set_behind, update_in, update_of}
 use Rattle.sql_bind.proofs.Lists.{All-one, all_made, kept, count, at_end, apart_more, apart_none}
 use Rattle.sql_bind.proofs.Places.{all_below}
 use Rattle.sql_bind.proofs.Queries.{missed, filter_tests}
@@ -112,28 +112,28 @@ module _ (tables : Tables) (columns : List ColumnDef) (places : List ℕ) where
     | inr p ↦ subst (λ (x : Expr). IsTypedFor (type_at columns (slice_index_or places k 0)) [] x) p.1 (subst (λ (n : ℕ). IsTypedFor (type_at columns (slice_index_or places n 0)) [] y) (sym p.0) here)
   ]
 
-  values_good : (done : List Expr) (list : List Ast) (out : List Expr) → length done + length list ≡ length places → AreValues done → each_behind (next_value tables types) done list ≡ Ok out → AreValues out
+  values_good : (done : List Expr) (list : List Ast) (out : List Expr) → length done + length list ≡ length places → AreValues done → each_behind (next_value tables nowhere types) done list ≡ Ok out → AreValues out
   values_good done [] out n all h = subst AreValues (ok_is done out h) all
   values_good done (v ∷ list) out n all h =
-      let p = bind_ok (next_value tables types done v) (λ next. each_behind (next_value tables types) (done ++ next ∷ []) list) out h in
+      let p = bind_ok (next_value tables nowhere types done v) (λ next. each_behind (next_value tables nowhere types) (done ++ next ∷ []) list) out h in
       let within : length done < length places = omega arith in
       let taken = taken_fits tables nowhere (slice_index_or types (length done) type.Any) v p.0 p.1 in
       let here = subst (λ (t : ValueType). IsTypedFor t [] p.0) (types_at columns places (length done) within) taken in
       let one = length-append done (p.0 ∷ []) in
       values_good (done ++ p.0 ∷ []) list out (omega (arith, n, one)) (value_added done p.0 all here) p.2
 
-  row_good : (row : AstRow) (out : ExprRow) → row_of tables types row ≡ Ok out → IsSoundRow columns places out
+  row_good : (row : AstRow) (out : ExprRow) → row_of tables nowhere types row ≡ Ok out → IsSoundRow columns places out
   unfolding row_of
   row_good row out h = by (length row.values == length types) refl h
     where
       by : (b : Bool) → (length row.values == length types) ≡ b →
-          (let r : Result ExprRow BindFault = refused_unless b fault.WrongCount >> (each_behind (next_value tables types) [] row.values >>= λ values. Ok (record { values = values })) in r ≡ Ok out) →
+          (let r : Result ExprRow BindFault = refused_unless b fault.WrongCount >> (each_behind (next_value tables nowhere types) [] row.values >>= λ values. Ok (record { values = values })) in r ≡ Ok out) →
           IsSoundRow columns places out
       by false is e = absurd cc
       by true is e =
-          let p = bind_ok (each_behind (next_value tables types) [] row.values) (λ values. Ok (record { values = values })) out e in
+          let p = bind_ok (each_behind (next_value tables nowhere types) [] row.values) (λ values. Ok (record { values = values })) out e in
           let same : length row.values ≡ length places = eqb-true (length row.values) (length types) is ∙ types_count columns places in
-          let made = count (next_value tables types) [] row.values p.0 p.1 in
+          let made = count (next_value tables nowhere types) [] row.values p.0 p.1 in
           subst (IsSoundRow columns places) (ok_is (record { values = p.0 }) out p.2) (record {
             count = omega (arith, made, same);
             values = values_good [] row.values p.0 (omega (arith, same)) (λ k x e. absurd cc) p.1;
@@ -141,7 +141,7 @@ module _ (tables : Tables) (columns : List ColumnDef) (places : List ℕ) where
 
   pub rows_good : (rows : List AstRow) (out : List ExprRow) → rows_of tables columns places rows ≡ Ok out → All (IsSoundRow columns places) out
   unfolding rows_of
-  rows_good rows out h = all_made (λ _. row_of tables types) (IsSoundRow columns places) (λ _ row r e. row_good row r e) rows out h
+  rows_good rows out h = all_made (λ _. row_of tables nowhere types) (IsSoundRow columns places) (λ _ row r e. row_good row r e) rows out h
 
 pub insert_sound : (tables : Tables) (insert : InsertStmt) (b : BoundInsert) → insert_of tables insert ≡ Ok b → IsSoundInsert tables b
 unfolding insert_of
@@ -205,7 +205,7 @@ module _ (tables : Tables) (name : List ℕ) (number : ℕ) where
   sets_good sets out h = kept (set_behind tables scope table) AreSets set_kept [] sets out (record { sound = All-nil (IsSoundSet tables number); apart = apart_none same_set }) h
 
 pub update_sound : (tables : Tables) (update : UpdateStmt) (b : BoundUpdate) → update_of tables update ≡ Ok b → IsSoundUpdate tables b
-unfolding update_of
+unfolding update_of update_in
 update_sound tables update b h =
     let p = bind_ok (table_named tables update.table) _ b h in
     let q = bind_ok (each_behind (set_behind tables (alone update.table p.0) (table_at tables p.0)) [] update.sets) _ b p.2 in

@@ -31,7 +31,7 @@ TypedOrFault = Result Typed BindFault
 
 -- an expression of a type
 abbrev pub typed : Expr → ValueType → Typed
-typed e t = record { expr = e; of = t }
+typed e t = record { expr = e; value_type = t }
 
 -- an expression of the type that its operator gives, which has to take its operands
 abbrev pub operator : Option ValueType → Expr → TypedOrFault
@@ -40,15 +40,15 @@ operator (Some t) e = Ok (typed e t)
 
 -- arithmetic on two bound operands
 abbrev pub calculation : Op → Typed → Typed → TypedOrFault
-calculation o a b = operator (two_operands type.Int a.of b.of) (expr.Arith o a.expr b.expr)
+calculation o a b = operator (two_operands type.Int a.value_type b.value_type) (expr.Arith o a.expr b.expr)
 
 -- a comparison of two
 abbrev pub compared : Test → Typed → Typed → TypedOrFault
-compared t a b = operator (comparison a.of b.of) (expr.Cmp t a.expr b.expr)
+compared t a b = operator (comparison a.value_type b.value_type) (expr.Cmp t a.expr b.expr)
 
 -- AND or OR of two
 abbrev pub connected : (Expr → Expr → Expr) → Typed → Typed → TypedOrFault
-connected connect a b = operator (two_operands type.Truth a.of b.of) (connect a.expr b.expr)
+connected connect a b = operator (two_operands type.Truth a.value_type b.value_type) (connect a.expr b.expr)
 
 -- an operator between two bound operands
 abbrev pub joined : AstOp → Typed → Typed → TypedOrFault
@@ -73,15 +73,15 @@ literal cell = Ok (typed (expr.Lit cell) (literal_type cell))
 abbrev pub column : Tables → Scope → ColRef → TypedOrFault
 column tables scope name = do
   found ← column_meant tables scope name
-  Ok (typed (expr.Col found.place) found.of)
+  Ok (typed (expr.Col found.place) found.value_type)
 
 -- a minus before a bound operand
 abbrev pub negated : Typed → TypedOrFault
-negated a = operator (one_operand type.Int a.of) (expr.Neg a.expr)
+negated a = operator (one_operand type.Int a.value_type) (expr.Neg a.expr)
 
 -- NOT of one
 abbrev pub denied : Typed → TypedOrFault
-denied a = operator (one_operand type.Truth a.of) (expr.Not a.expr)
+denied a = operator (one_operand type.Truth a.value_type) (expr.Not a.expr)
 
 -- a test whether one is NULL, or is not
 abbrev pub null_test : Typed → Bool → Typed
@@ -113,7 +113,7 @@ expression_of tables scope = fold-Ast TypedOrFault (level tables scope)
 unfoldable pub taken_by : ValueType → Tables → Scope → Ast → Result Expr BindFault
 taken_by wanted tables scope value = do
   bound ← expression_of tables scope value
-  refused_unless (takes wanted bound.of) fault.TypeClash
+  refused_unless (takes wanted bound.value_type) fault.TypeClash
   Ok bound.expr
 
 -- an expression of any type

@@ -15,6 +15,7 @@ use Rattle.sql_bind.specs.declared.bound.BoundInsert.{BoundInsert}
 use Rattle.sql_bind.specs.declared.bound.ExprRow.{ExprRow}
 use Rattle.sql_bind.specs.declared.fault.BindFault.{BindFault}
 use Rattle.sql_bind.specs.declared.fault.BindFault.TheVariants as fault
+use Rattle.sql_bind.specs.declared.scope.Scope.{Scope}
 use Rattle.sql_bind.specs.Expressions.{taken_by}
 use Rattle.sql_bind.specs.Names.{table_named, columns_of, column_named, type_at, nowhere}
 use Rattle.sql_bind.specs.Steps.{◌>>◌, refused_if, refused_unless, each, each_behind}
@@ -36,19 +37,19 @@ listed_columns columns (first ∷ others) = each_behind (listed_column columns) 
 -- ---- rows
 
 -- the next value of a row, which has to be of the type at its place
-abbrev pub next_value : Tables → List ValueType → List Expr → Ast → Result Expr BindFault
-next_value tables types before value = taken_by (slice_index_or types (length before) type.Any) tables nowhere value
+abbrev pub next_value : Tables → Scope → List ValueType → List Expr → Ast → Result Expr BindFault
+next_value tables scope types before value = taken_by (slice_index_or types (length before) type.Any) tables scope value
 
 -- a row has one value for each column; then come its values from left to right
-unfoldable pub row_of : Tables → List ValueType → AstRow → Result ExprRow BindFault
-row_of tables types row = do
+unfoldable pub row_of : Tables → Scope → List ValueType → AstRow → Result ExprRow BindFault
+row_of tables scope types row = do
   refused_unless (length row.values == length types) fault.WrongCount
-  values ← each_behind (next_value tables types) [] row.values
+  values ← each_behind (next_value tables scope types) [] row.values
   Ok (record { values = values })
 
--- the rows in order, with a value for each column at the places
+-- the rows in order, with a value for each column at the places; no column stands in a value
 unfoldable pub rows_of : Tables → List ColumnDef → List ℕ → List AstRow → Result (List ExprRow) BindFault
-rows_of tables columns places rows = each (row_of tables (map (type_at columns) places)) rows
+rows_of tables columns places rows = each (row_of tables nowhere (map (type_at columns) places)) rows
 
 -- ---- statements
 

@@ -99,7 +99,7 @@ is_meant (Some table) known = text_eq table known.name
 
 -- a column of a table whose columns are numbered from a number on
 abbrev pub found_at : ℕ → List ColumnDef → ℕ → Found
-found_at first columns place = record { place = first + place; of = type_at columns place }
+found_at first columns place = record { place = first + place; value_type = type_at columns place }
 
 -- the column of a table that a written one may be
 abbrev pub found_in : Tables → ℕ → ColRef → Option Known → Option Found

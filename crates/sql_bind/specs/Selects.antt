@@ -13,6 +13,7 @@ use Rattle.sql_bind.specs.declared.fault.BindFault.{BindFault}
 use Rattle.sql_bind.specs.declared.fault.BindFault.TheVariants as fault
 use Rattle.sql_bind.specs.declared.scope.Known.{Known}
 use Rattle.sql_bind.specs.declared.scope.Scope.{Scope}
+use Rattle.sql_bind.specs.declared.select.Lines.{Lines}
 use Rattle.sql_bind.specs.Conditions.{condition_of, filter_of}
 use Rattle.sql_bind.specs.Items.{has_aggregate, items_of}
 use Rattle.sql_bind.specs.Names.{known_of, column_meant, everywhere}
@@ -68,8 +69,8 @@ abbrev pub only_group : Bool → List ℕ → Option (List ℕ)
 only_group grouped group = if grouped then Some group else None
 
 -- where plain items and the columns of ORDER BY stand: in a grouped query they are columns of GROUP BY
-abbrev pub plain_of : Bool → List ℕ → Scope → Scope
-plain_of grouped group scope = record { left = scope.left; right = scope.right; group = only_group grouped group }
+abbrev pub plain_scope : Bool → List ℕ → Scope → Scope
+plain_scope grouped group scope = record { left = scope.left; right = scope.right; group = only_group grouped group }
 
 -- ---- queries
 
@@ -89,24 +90,38 @@ numbers_in (Some known) = known.table ∷ []
 abbrev pub numbers_of : Scope → List ℕ
 numbers_of scope = numbers_in scope.left ++ numbers_in scope.right
 
--- a query, whose refusals come in the order of its lines: of the tables; of ON, and then of WHERE; of GROUP BY; of the
--- items; and of ORDER BY
-unfoldable pub select_of : Tables → SelectStmt → Result BoundSelect BindFault
-select_of tables select = do
-  scope ← from_of tables select
+-- the items, and then ORDER BY, where plain items and the columns of ORDER BY stand in the second scope
+unfoldable pub lines_in : Tables → Scope → Scope → SelectStmt → Result Lines BindFault
+lines_in tables scope plain select = do
+  items ← items_of tables scope plain select.items
+  order ← order_of tables plain (written_items select.items) select.order
+  Ok (record { items = items; order = order })
+
+-- the same behind the columns of GROUP BY
+unfoldable pub lines_of : Tables → Scope → List ℕ → SelectStmt → Result Lines BindFault
+lines_of tables scope group select = lines_in tables scope (plain_scope (is_grouped select) group scope) select
+
+-- what stands behind the tables: ON, and then WHERE; GROUP BY; the items, and then ORDER BY
+unfoldable pub query_in : Tables → Scope → SelectStmt → Result BoundSelect BindFault
+query_in tables scope select = do
   tests ← tests_of tables scope select
   group ← group_behind tables scope [] select.group
-  items ← items_of tables scope (plain_of (is_grouped select) group scope) select.items
-  order ← order_of tables (plain_of (is_grouped select) group scope) (written_items select.items) select.order
+  lines ← lines_of tables scope group select
   Ok (record {
     tables = numbers_of scope;
     tests = tests;
     grouped = is_grouped select;
     group = group;
-    items = items;
-    order = order;
+    items = lines.items;
+    order = lines.order;
     limit = select.limit;
   })
+
+-- a query, whose refusals come in the order of these lines: of the tables, and then of what stands behind them
+unfoldable pub select_of : Tables → SelectStmt → Result BoundSelect BindFault
+select_of tables select = do
+  scope ← from_of tables select
+  query_in tables scope select
 
 -- the same with FOR UPDATE, which may neither join nor group; that is tested last
 unfoldable pub lock_of : Tables → SelectStmt → Result BoundSelect BindFault

@@ -37,10 +37,15 @@ set_behind tables scope table before set = do
   value ← taken_by (type_at table.columns place) tables scope set.value
   Ok (record { column = place; value = value })
 
--- an UPDATE: the table; what is set, from left to right; WHERE
+-- what is set, from left to right, and then WHERE, over the columns of the table with the number
+unfoldable pub update_in : Tables → Scope → ℕ → UpdateStmt → Result BoundUpdate BindFault
+update_in tables scope table update = do
+  sets ← each_behind (set_behind tables scope (table_at tables table)) [] update.sets
+  tests ← filter_of tables scope update.filter
+  Ok (record { table = table; sets = sets; tests = tests })
+
+-- an UPDATE: the table; what is set; WHERE
 unfoldable pub update_of : Tables → UpdateStmt → Result BoundUpdate BindFault
 update_of tables update = do
   table ← table_named tables update.table
-  sets ← each_behind (set_behind tables (alone update.table table) (table_at tables table)) [] update.sets
-  tests ← filter_of tables (alone update.table table) update.filter
-  Ok (record { table = table; sets = sets; tests = tests })
+  update_in tables (alone update.table table) table update

@@ -21,9 +21,8 @@ pub(crate) fn delete_of(
 {
     let table = table_named(alloc, schema, &delete.table)?;
     let scope = alone(alloc, &delete.table, table)?;
-    let tests = filter_of(alloc, schema, &scope, &delete.filter)?;
-    Ok(BoundDelete {
-        table,
-        tests: ExprList::new(tests),
-    })
+    let tests = filter_of(alloc, schema, &scope, &delete.filter);
+    drop(scope);
+    let tests = ExprList::new(tests?);
+    Ok(BoundDelete { table, tests })
 }

@@ -19,23 +19,23 @@ use std::alloc::Global;
 #[derive(Drop)]
 pub(crate) struct Typed {
     pub(crate) expr: Boxed<Expr>,
-    pub(crate) of: ValueType,
+    pub(crate) value_type: ValueType,
 }
 
-fn of_type(alloc: Global, expr: Expr, of: ValueType) -> Result<Typed, BindFault>
-    ensures { Gives BindFault.NoMemory (λ t. t) result (Ok (spec.typed expr of)) }
+fn of_type(alloc: Global, expr: Expr, value_type: ValueType) -> Result<Typed, BindFault>
+    ensures { Gives BindFault.NoMemory (λ t. t) result (Ok (spec.typed expr value_type)) }
 {
     let expr = Boxed::new(alloc, expr)?;
-    Ok(Typed { expr, of })
+    Ok(Typed { expr, value_type })
 }
 
 /// An expression of the type that its operator gives, if it takes its operands.
-fn operator(alloc: Global, of: Option<ValueType>, expr: Expr) -> Result<Typed, BindFault>
-    ensures { Gives BindFault.NoMemory (λ t. t) result (spec.operator of expr) }
+fn operator(alloc: Global, value_type: Option<ValueType>, expr: Expr) -> Result<Typed, BindFault>
+    ensures { Gives BindFault.NoMemory (λ t. t) result (spec.operator value_type expr) }
 {
     let expr = Boxed::new(alloc, expr)?;
-    match of {
-        Some(of) => Ok(Typed { expr, of }),
+    match value_type {
+        Some(value_type) => Ok(Typed { expr, value_type }),
         None => Err(BindFault::TypeClash),
     }
 }
@@ -55,35 +55,35 @@ fn column(
     ensures { Gives BindFault.NoMemory (λ t. t) result (spec.column schema.now scope.now column.now) }
 {
     let found = column_meant(alloc, schema, scope, column)?;
-    of_type(alloc, Expr::Col(found.place), found.of)
+    of_type(alloc, Expr::Col(found.place), found.value_type)
 }
 
 fn calculation(alloc: Global, op: Op, a: Typed, b: Typed) -> Result<Typed, BindFault>
     ensures { Gives BindFault.NoMemory (λ t. t) result (spec.calculation op a b) }
 {
-    let of = two_operands(ValueType::Int, a.of, b.of);
-    operator(alloc, of, Expr::Arith(op, a.expr, b.expr))
+    let value_type = two_operands(ValueType::Int, a.value_type, b.value_type);
+    operator(alloc, value_type, Expr::Arith(op, a.expr, b.expr))
 }
 
 fn compared(alloc: Global, test: Test, a: Typed, b: Typed) -> Result<Typed, BindFault>
     ensures { Gives BindFault.NoMemory (λ t. t) result (spec.compared test a b) }
 {
-    let of = compared_operands(a.of, b.of);
-    operator(alloc, of, Expr::Cmp(test, a.expr, b.expr))
+    let value_type = compared_operands(a.value_type, b.value_type);
+    operator(alloc, value_type, Expr::Cmp(test, a.expr, b.expr))
 }
 
 fn both(alloc: Global, a: Typed, b: Typed) -> Result<Typed, BindFault>
     ensures { Gives BindFault.NoMemory (λ t. t) result (spec.joined AstOp.And a b) }
 {
-    let of = two_operands(ValueType::Truth, a.of, b.of);
-    operator(alloc, of, Expr::And(a.expr, b.expr))
+    let value_type = two_operands(ValueType::Truth, a.value_type, b.value_type);
+    operator(alloc, value_type, Expr::And(a.expr, b.expr))
 }
 
 fn either(alloc: Global, a: Typed, b: Typed) -> Result<Typed, BindFault>
     ensures { Gives BindFault.NoMemory (λ t. t) result (spec.joined AstOp.Or a b) }
 {
-    let of = two_operands(ValueType::Truth, a.of, b.of);
-    operator(alloc, of, Expr::Or(a.expr, b.expr))
+    let value_type = two_operands(ValueType::Truth, a.value_type, b.value_type);
+    operator(alloc, value_type, Expr::Or(a.expr, b.expr))
 }
 
 /// An operator between two bound operands.
@@ -109,15 +109,15 @@ fn joined(alloc: Global, op: AstOp, a: Typed, b: Typed) -> Result<Typed, BindFau
 fn negated(alloc: Global, a: Typed) -> Result<Typed, BindFault>
     ensures { Gives BindFault.NoMemory (λ t. t) result (spec.negated a) }
 {
-    let of = one_operand(ValueType::Int, a.of);
-    operator(alloc, of, Expr::Neg(a.expr))
+    let value_type = one_operand(ValueType::Int, a.value_type);
+    operator(alloc, value_type, Expr::Neg(a.expr))
 }
 
 fn denied(alloc: Global, a: Typed) -> Result<Typed, BindFault>
     ensures { Gives BindFault.NoMemory (λ t. t) result (spec.denied a) }
 {
-    let of = one_operand(ValueType::Truth, a.of);
-    operator(alloc, of, Expr::Not(a.expr))
+    let value_type = one_operand(ValueType::Truth, a.value_type);
+    operator(alloc, value_type, Expr::Not(a.expr))
 }
 
 fn null_test(alloc: Global, a: Typed, is_not: bool) -> Result<Typed, BindFault>
@@ -172,7 +172,7 @@ pub(crate) fn taken_by(
     ensures { Gives BindFault.NoMemory (λ e. e) result (spec.taken_by wanted schema.now scope.now ast.now) }
 {
     let bound = expression_of(alloc, schema, scope, ast)?;
-    if !takes(wanted, bound.of) {
+    if !takes(wanted, bound.value_type) {
         return Err(BindFault::TypeClash);
     }
     Ok(bound.expr.into_inner())

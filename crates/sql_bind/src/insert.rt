@@ -11,7 +11,7 @@ use crate::bound::{BoundInsert, ExprList, ExprRow, ExprRowList};
 use crate::expressions::taken_by;
 use crate::fault::BindFault;
 use crate::names::{column_named, type_at};
-use crate::scope::{columns_of, nowhere, table_named};
+use crate::scope::{Scope, columns_of, nowhere, table_named};
 use geo_base::{Duplicate, NoMemory, Txt};
 use geo_schema::{ColumnDef, PlaceList, Schema, is_in};
 use sql_ast::{Ast, AstRow, InsertStmt};
@@ -100,16 +100,16 @@ fn place_types(
 fn values_of(
     alloc: Global,
     schema: &Schema,
+    scope: &Scope,
     types: &[ValueType],
     values: &[Ast],
 ) -> Result<Vec<Expr>, BindFault>
     requires { length values.now ≡ length types.now }
-    ensures { Gives BindFault.NoMemory (λ v. v.items) result (each_behind (spec.next_value schema.now types.now) [] values.now) }
+    ensures { Gives BindFault.NoMemory (λ v. v.items) result (each_behind (spec.next_value schema.now scope.now types.now) [] values.now) }
 {
-    let scope = nowhere();
     let mut bound = Vec::with_capacity(alloc, values.len())?;
     for (place, value) in values.iter().enumerate() {
-        bound.push(taken_by(alloc, types[place], schema, &scope, value)?)?;
+        bound.push(taken_by(alloc, types[place], schema, scope, value)?)?;
     }
     Ok(bound)
 }
@@ -119,16 +119,17 @@ fn values_of(
 fn row_of(
     alloc: Global,
     schema: &Schema,
+    scope: &Scope,
     types: &[ValueType],
     row: &AstRow,
 ) -> Result<ExprRow, BindFault>
-    ensures { Gives BindFault.NoMemory (λ r. r) result (spec.row_of schema.now types.now row.now) }
+    ensures { Gives BindFault.NoMemory (λ r. r) result (spec.row_of schema.now scope.now types.now row.now) }
 {
     let values = row.values.items();
     if values.len() != types.len() {
         return Err(BindFault::WrongCount);
     }
-    let values = values_of(alloc, schema, types, values)?;
+    let values = values_of(alloc, schema, scope, types, values)?;
     Ok(ExprRow {
         values: ExprList::new(values),
     })
@@ -138,14 +139,15 @@ fn row_of(
 fn typed_rows(
     alloc: Global,
     schema: &Schema,
+    scope: &Scope,
     types: &[ValueType],
     rows: &[AstRow],
 ) -> Result<Vec<ExprRow>, BindFault>
-    ensures { Gives BindFault.NoMemory (λ v. v.items) result (each (spec.row_of schema.now types.now) rows.now) }
+    ensures { Gives BindFault.NoMemory (λ v. v.items) result (each (spec.row_of schema.now scope.now types.now) rows.now) }
 {
     let mut bound = Vec::new(alloc);
     for row in rows {
-        bound.push(row_of(alloc, schema, types, row)?)?;
+        bound.push(row_of(alloc, schema, scope, types, row)?)?;
     }
     Ok(bound)
 }
@@ -163,7 +165,10 @@ fn rows_of(
     ensures { Gives BindFault.NoMemory (λ v. v.items) result (spec.rows_of schema.now columns.now places.now rows.now) }
 {
     let types = place_types(alloc, columns, places)?;
-    typed_rows(alloc, schema, types.as_slice(), rows)
+    let scope = nowhere();
+    let bound = typed_rows(alloc, schema, &scope, types.as_slice(), rows);
+    drop(scope);
+    bound
 }
 
 /// An INSERT: the table, the list of columns, and the rows.

@@ -15,10 +15,10 @@ use sql_expr::ValueType;
 use std::alloc::Global;
 
 /// A column by its number through the left table and then the right one, and the type of its cells.
-#[derive(Clone, Copy, Debug, PartialEq, Eq)]
+#[derive(Clone, Copy)]
 pub(crate) struct Found {
     pub(crate) place: u16,
-    pub(crate) of: ValueType,
+    pub(crate) value_type: ValueType,
 }
 
 /// The type of the cells of a column.
@@ -106,7 +106,7 @@ fn found_at(first: u16, columns: &[ColumnDef], place: u8) -> Found
 {
     Found {
         place: first + place as u16,
-        of: type_at(columns, place),
+        value_type: type_at(columns, place),
     }
 }
 

@@ -13,14 +13,14 @@ use sql_ast::TableRef;
 use std::alloc::Global;
 
 /// A table of a statement, and the name that it is known by.
-#[derive(Debug, Drop)]
+#[derive(Drop)]
 pub(crate) struct Known {
     pub(crate) name: Txt,
     pub(crate) table: TableNo,
 }
 
 /// The tables whose columns may stand in an expression.
-#[derive(Debug, Drop)]
+#[derive(Drop)]
 pub(crate) struct Scope {
     pub(crate) left: Option<Known>,
     pub(crate) right: Option<Known>,

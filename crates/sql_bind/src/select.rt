@@ -16,6 +16,13 @@ use sql_ast::{ColRef, JoinRef, SelectStmt};
 use sql_expr::Expr;
 use std::alloc::Global;
 
+/// What a query answers of each row, pair or group, and what it sorts them by.
+#[derive(Drop)]
+pub(crate) struct Lines {
+    pub(crate) items: ItemList,
+    pub(crate) order: SortList,
+}
+
 /// The table of JOIN.
 fn second_of(
     alloc: Global,
@@ -144,8 +151,13 @@ fn group_copy(alloc: Global, grouped: bool, group: &[u16]) -> Result<Option<Colu
 }
 
 /// Where plain items and the columns of ORDER BY stand.
-fn plain_of(alloc: Global, grouped: bool, group: &[u16], scope: &Scope) -> Result<Scope, NoMemory>
-    ensures { IfOk result (λ p. p ≡ spec.plain_of grouped group.now scope.now) }
+fn plain_scope(
+    alloc: Global,
+    grouped: bool,
+    group: &[u16],
+    scope: &Scope,
+) -> Result<Scope, NoMemory>
+    ensures { IfOk result (λ p. p ≡ spec.plain_scope grouped group.now scope.now) }
 {
     let group = group_copy(alloc, grouped, group)?;
     let left = copy_known(alloc, &scope.left)?;
@@ -167,7 +179,69 @@ fn numbers_of(alloc: Global, scope: &Scope) -> Result<Vec<TableNo>, NoMemory>
     Ok(numbers)
 }
 
-/// A query: the tables, ON, WHERE, GROUP BY, the items, and ORDER BY.
+/// The items, and then ORDER BY. Plain items and the columns of ORDER BY stand in the scope `plain`.
+#[tactic(auto, unfolding(crate::specs::Selects::lines_in))]
+fn lines_in(
+    alloc: Global,
+    schema: &Schema,
+    scope: &Scope,
+    plain: &Scope,
+    select: &SelectStmt,
+) -> Result<Lines, BindFault>
+    ensures { Gives BindFault.NoMemory (λ l. l) result (spec.lines_in schema.now scope.now plain.now select.now) }
+{
+    let items = items_of(alloc, schema, scope, plain, &select.items)?;
+    let list = written_items(&select.items);
+    let order = order_of(alloc, schema, plain, list, select.order.items())?;
+    Ok(Lines {
+        items: ItemList::new(items),
+        order: SortList::new(order),
+    })
+}
+
+/// The items, and then ORDER BY, behind the columns of GROUP BY.
+#[tactic(auto, unfolding(crate::specs::Selects::lines_of))]
+fn lines_of(
+    alloc: Global,
+    schema: &Schema,
+    scope: &Scope,
+    group: &[u16],
+    select: &SelectStmt,
+) -> Result<Lines, BindFault>
+    ensures { Gives BindFault.NoMemory (λ l. l) result (spec.lines_of schema.now scope.now group.now select.now) }
+{
+    let plain = plain_scope(alloc, is_grouped(select), group, scope)?;
+    let lines = lines_in(alloc, schema, scope, &plain, select);
+    drop(plain);
+    lines
+}
+
+/// What stands behind the tables: ON, WHERE, GROUP BY, the items, and ORDER BY.
+#[tactic(auto, unfolding(crate::specs::Selects::query_in))]
+fn query_in(
+    alloc: Global,
+    schema: &Schema,
+    scope: &Scope,
+    select: &SelectStmt,
+) -> Result<BoundSelect, BindFault>
+    ensures { Gives BindFault.NoMemory (λ b. b) result (spec.query_in schema.now scope.now select.now) }
+{
+    let tests = tests_of(alloc, schema, scope, select)?;
+    let group = group_of(alloc, schema, scope, select.group.items())?;
+    let tables = numbers_of(alloc, scope)?;
+    let lines = lines_of(alloc, schema, scope, group.as_slice(), select)?;
+    Ok(BoundSelect {
+        tables: TableList::new(tables),
+        tests: ExprList::new(tests),
+        grouped: is_grouped(select),
+        group: ColumnNoList::new(group),
+        items: lines.items,
+        order: lines.order,
+        limit: select.limit,
+    })
+}
+
+/// A query: the tables, and then what stands behind them.
 #[tactic(auto, unfolding(crate::specs::Selects::select_of))]
 pub(crate) fn select_of(
     alloc: Global,
@@ -177,23 +251,9 @@ pub(crate) fn select_of(
     ensures { Gives BindFault.NoMemory (λ b. b) result (spec.select_of schema.now select.now) }
 {
     let scope = from_of(alloc, schema, select)?;
-    let tests = tests_of(alloc, schema, &scope, select)?;
-    let group = group_of(alloc, schema, &scope, select.group.items())?;
-    let grouped = is_grouped(select);
-    let plain = plain_of(alloc, grouped, group.as_slice(), &scope)?;
-    let items = items_of(alloc, schema, &scope, &plain, &select.items)?;
-    let list = written_items(&select.items);
-    let order = order_of(alloc, schema, &plain, list, select.order.items())?;
-    let tables = numbers_of(alloc, &scope)?;
-    Ok(BoundSelect {
-        tables: TableList::new(tables),
-        tests: ExprList::new(tests),
-        grouped,
-        group: ColumnNoList::new(group),
-        items: ItemList::new(items),
-        order: SortList::new(order),
-        limit: select.limit,
-    })
+    let bound = query_in(alloc, schema, &scope, select);
+    drop(scope);
+    bound
 }
 
 /// A query with FOR UPDATE, which may neither join nor group. That is tested last.
@@ -207,6 +267,7 @@ pub(crate) fn lock_of(
 {
     let bound = select_of(alloc, schema, select)?;
     if select.right.is_some() || bound.grouped {
+        drop(bound);
         return Err(BindFault::NotLockable);
     }
     Ok(bound)

@@ -82,6 +82,26 @@ fn sets_of(
     Ok(bound)
 }
 
+/// What is set, and then WHERE, over the columns of the table.
+#[tactic(auto, unfolding(crate::specs::Updates::update_in))]
+fn update_in(
+    alloc: Global,
+    schema: &Schema,
+    scope: &Scope,
+    table: TableNo,
+    update: &UpdateStmt,
+) -> Result<BoundUpdate, BindFault>
+    ensures { Gives BindFault.NoMemory (λ b. b) result (spec.update_in schema.now scope.now table update.now) }
+{
+    let sets = sets_of(alloc, schema, scope, table, update.sets.items())?;
+    let tests = filter_of(alloc, schema, scope, &update.filter)?;
+    Ok(BoundUpdate {
+        table,
+        sets: SetToList::new(sets),
+        tests: ExprList::new(tests),
+    })
+}
+
 /// An UPDATE: the table, what is set, and WHERE.
 #[tactic(auto, unfolding(crate::specs::Updates::update_of))]
 pub(crate) fn update_of(
@@ -93,11 +113,7 @@ pub(crate) fn update_of(
 {
     let table = table_named(alloc, schema, &update.table)?;
     let scope = alone(alloc, &update.table, table)?;
-    let sets = sets_of(alloc, schema, &scope, table, update.sets.items())?;
-    let tests = filter_of(alloc, schema, &scope, &update.filter)?;
-    Ok(BoundUpdate {
-        table,
-        sets: SetToList::new(sets),
-        tests: ExprList::new(tests),
-    })
+    let bound = update_in(alloc, schema, &scope, table, update);
+    drop(scope);
+    bound
 }

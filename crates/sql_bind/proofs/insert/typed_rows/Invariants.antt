@@ -6,4 +6,4 @@ use Rattle.sql_bind.proofs.insert.typed_rows.Given as goal
 
 abbrev pub invariant-loop-row : goal.invariant-loop-row
 invariant-loop-row l =
-    each_behind (λ _. row_of l.schema l.types) l.bound.items (drop l.row-index l.rows) ≡ each (row_of l.schema l.types) l.rows
+    each_behind (λ _. row_of l.schema l.scope l.types) l.bound.items (drop l.row-index l.rows) ≡ each (row_of l.schema l.scope l.types) l.rows

@@ -8,5 +8,5 @@ abbrev pub invariant-loop-place : goal.invariant-loop-place
 invariant-loop-place l =
     record {
       count : length l.bound.items ≡ l.place;
-      so_far : each_behind (next_value l.schema l.types) l.bound.items (drop l.place l.values) ≡ each_behind (next_value l.schema l.types) [] l.values;
+      so_far : each_behind (next_value l.schema l.scope l.types) l.bound.items (drop l.place l.values) ≡ each_behind (next_value l.schema l.scope l.types) [] l.values;
     }
