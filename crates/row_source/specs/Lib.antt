@@ -1,3 +1,5 @@
+pub mod Bounds
 pub mod Handing
 pub mod Lists
+pub mod Matches
 pub mod Sources

@@ -1,7 +1,10 @@
 ghost use Rattle.std.specs.Prelude.{◌≡◌};
+ghost use Rattle.row_source.specs.Matches.{fault_of};
 ghost use Rattle.row_source.specs.declared.fault.ExecFault.TheVariants as fault;
 
 use geo_base::{NoMemory, RowId, Txt};
+use sql_expr::EvalFault;
+use std::alloc::{AllocError, AllocFailed};
 
 /// Why a statement was refused while it ran.
 #[derive(Debug, Drop, PartialEq, Eq)]
@@ -31,5 +34,33 @@ impl From<NoMemory> for ExecFault {
 
     fn from(_e: NoMemory) -> ExecFault {
         ExecFault::NoMemory
+    }
+}
+
+impl From<AllocError> for ExecFault {
+    ghost from_gives = { λ _ e. e ≡ fault.NoMemory };
+
+    fn from(_e: AllocError) -> ExecFault {
+        ExecFault::NoMemory
+    }
+}
+
+impl<T: Drop> From<AllocFailed<T>> for ExecFault {
+    ghost from_gives = { λ _ e. e ≡ fault.NoMemory };
+
+    fn from(_e: AllocFailed<T>) -> ExecFault {
+        ExecFault::NoMemory
+    }
+}
+
+impl From<EvalFault> for ExecFault {
+    ghost from_gives = { λ e f. f ≡ fault_of e };
+
+    fn from(e: EvalFault) -> ExecFault {
+        match e {
+            EvalFault::Overflow => ExecFault::Overflow,
+            EvalFault::DivideByZero => ExecFault::DivideByZero,
+            EvalFault::NoMemory => ExecFault::NoMemory,
+        }
     }
 }

@@ -3,10 +3,12 @@
 //! A [`RowSource`] is a list of rows in rising order. It is asked for one row, for the rows of a table whose
 //! keys lie in a range, and for those whose cells in an index do; what it hands out is that part of the list
 //! (`specs/Sources.antt`), and a counter rises by just as many [`Steps`]. [`ListSource`] is the plain one.
-//! The types of plans, of pairs of rows and of the faults of statements stand here too, since the crates that
-//! choose plans, that join and that group all speak of them.
+//! The types of plans, of pairs of rows and of the faults of statements stand here too, and how an expression
+//! or a condition is evaluated with these faults, since the crates that choose plans, that join and that group
+//! all speak of them.
 #![tactic(auto)]
 
+mod evaluation;
 mod fault;
 mod laws;
 mod list_source;
@@ -15,6 +17,7 @@ mod plan;
 mod source;
 mod steps;
 
+pub use evaluation::{passes, value};
 pub use fault::ExecFault;
 pub use laws::names_are_of_one_row;
 pub use list_source::{ListSource, RowImageAt};
