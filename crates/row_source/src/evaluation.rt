@@ -13,12 +13,7 @@ use std::alloc::Global;
 /// The value of an expression over the cells of a left row and those of a right one, or its fault. There are no
 /// right cells where there is one table. A text is copied only where it is the answer; the time is linear in
 /// the expression.
-pub fn value(
-    alloc: Global,
-    expr: &Expr,
-    left: &[Cell],
-    right: &[Cell],
-) -> Result<Cell, ExecFault>
+pub fn value(alloc: Global, expr: &Expr, left: &[Cell], right: &[Cell]) -> Result<Cell, ExecFault>
     ensures { Gives fault.NoMemory (λ c. c) result (value (left.now ++ right.now) expr.now) }
 {
     match eval(alloc, expr, left, right) {

@@ -1,0 +1,6 @@
+mod Alone
+mod Binding
+mod Kept
+mod Reached
+mod Plain
+mod Planned

@@ -1,0 +1,27 @@
+use Rattle.std.proofs.Common.{◌≡◌, ℕ, List, [], ◌∷◌, Result, length, map, get_or, sym, ap, subst, ◌∙◌}
+use Rattle.std.specs.List.{filter}
+use Rattle.geo_base.specs.Results.{Gives}
+use Rattle.geo_base.specs.declared.cell.Cell.{Cell}
+use Rattle.row_source.specs.Handing.{reaches}
+use Rattle.row_source.specs.Sources.{images}
+use Rattle.row_source.specs.declared.fault.ExecFault.{ExecFault}
+use Rattle.row_source.specs.declared.fault.ExecFault.TheVariants as fault
+use Rattle.sql_exec.proofs.Planned.{planned, the_table}
+use Rattle.sql_exec.proofs.select.select_by.Goals as goal
+use Rattle.sql_exec.specs.Answers.{answer_of}
+use Rattle.sql_exec.specs.inner.Plain.{plain_answer}
+
+pub returns-clause-answer : goal.returns-clause-answer
+returns-clause-answer g c =
+    let tables = g.R.RowSource.tables c.args.source.now in
+    let rows = g.R.RowSource.rows c.args.source.now in
+    let query = c.args.query.now in
+    let number : ℕ = get_or c.items.result.now 0 0 in
+    let one : query.tables ≡ number ∷ [] = sym c.items.ensures ∙ the_table c.items.result.now 0 (ap length c.items.ensures ∙ c.requires.one) in
+    let handed : map (λ row. row.now) c.as_slice.result.now ≡ images (filter (reaches tables number c.args.plan.first) rows) =
+    rw c.as_slice.ensures.value c.in_ok-rows.ensures.rows in
+    let same : answer_of query rows ≡ plain_answer query.items query.tests (map (λ row. row.now) c.as_slice.result.now) =
+    planned tables query c.args.plan number rows one c.requires.ungrouped c.requires.unordered c.requires.uncut c.requires.leaves_out
+    ∙ ap (plain_answer query.items query.tests) (sym handed) in
+    subst (λ (answer : Result (List (List Cell)) ExecFault). Gives fault.NoMemory (λ (lines : List (List Cell)). lines) c.plain_answer.result answer)
+    (sym same) c.plain_answer.ensures

@@ -1,0 +1,89 @@
+//! The lines of an answer.
+ghost use Rattle.std.specs.Prelude.{◌≡◌, ◌≤◌, length, map, IfOk};
+ghost use Rattle.geo_base.specs.Results.{Gives, Matches};
+ghost use Rattle.geo_base.specs.declared.limits.TheConstants.{MAX_LINE_CELLS};
+ghost use Rattle.group_exec.specs.Results as lines;
+ghost use Rattle.row_source.specs.Matches as matched;
+ghost use Rattle.row_source.specs.declared.fault.ExecFault.TheVariants as fault;
+ghost use Rattle.sql_bind.specs.Steps.{each};
+ghost use Rattle.sql_exec.specs.inner.Plain as plain;
+
+use crate::lock::LineList;
+use geo_base::{Cell, Line, Many, RowImage};
+use group_exec::limits::MAX_LINES;
+use row_source::{ExecFault, value};
+use sql_bind::Item;
+use sql_expr::Expr;
+use std::alloc::Global;
+
+/// The value of an expression over a row of one table.
+#[tactic(auto, using(crate::proofs::Alone::no_right))]
+fn value_over(alloc: Global, expr: &Expr, row: &[Cell]) -> Result<Cell, ExecFault>
+    ensures { Gives fault.NoMemory (λ c. c) result (matched.value row.now expr.now) }
+{
+    value(alloc, expr, row, &[])
+}
+
+/// An item over a row. A query that isn't grouped has plain items alone.
+fn plain_cell(alloc: Global, item: &Item, row: &[Cell]) -> Result<Cell, ExecFault>
+    ensures { Gives fault.NoMemory (λ c. c) result (lines.plain_cell row.now item.now) }
+{
+    match item {
+        Item::Plain(expr) => value_over(alloc, expr, row),
+        _ => Ok(Cell::Null),
+    }
+}
+
+/// The cells of the line of a row, from left to right.
+fn cells_over(alloc: Global, items: &[Item], row: &[Cell]) -> Result<Vec<Cell>, ExecFault>
+    ensures cells { Gives fault.NoMemory (λ v. v.items) result (each (lines.plain_cell row.now) items.now) }
+    ensures count { IfOk result (λ v. length v.items ≡ length items.now) }
+{
+    let mut cells = Vec::with_capacity(alloc, items.len())?;
+    for item in items {
+        cells.push(plain_cell(alloc, item, row)?)?;
+    }
+    Ok(cells)
+}
+
+/// The line of a row.
+#[tactic(auto, unfolding(crate::specs::inner::Plain::line_over))]
+fn line_over(alloc: Global, items: &[Item], row: &[Cell]) -> Result<Line, ExecFault>
+    requires some { 1 ≤ length items.now }
+    requires few { length items.now ≤ MAX_LINE_CELLS }
+    ensures { Gives fault.NoMemory (λ l. l) result (plain.line_over items.now row.now) }
+{
+    let cells = cells_over(alloc, items, row)?;
+    match Line::new(cells) {
+        Ok(line) => Ok(line),
+        Err(_) => unreachable!(),
+    }
+}
+
+/// The lines of rows, one after another.
+#[tactic(auto, unfolding(crate::specs::inner::Plain::lines_over))]
+pub(crate) fn lines_over(
+    alloc: Global,
+    items: &[Item],
+    rows: &[&RowImage],
+) -> Result<Vec<Line>, ExecFault>
+    requires some { 1 ≤ length items.now }
+    requires few { length items.now ≤ MAX_LINE_CELLS }
+    ensures { Gives fault.NoMemory (λ v. v.items) result (plain.lines_over items.now (map (λ row. row.now) rows.now)) }
+{
+    let mut lines = Vec::with_capacity(alloc, rows.len())?;
+    for row in rows {
+        lines.push(line_over(alloc, items, row.cells())?)?;
+    }
+    Ok(lines)
+}
+
+/// The lines, unless there are too many.
+pub(crate) fn unless_too_long(lines: Vec<Line>) -> Result<LineList, ExecFault>
+    ensures { Matches (λ l. l) result (plain.unless_too_long lines.items) }
+{
+    if MAX_LINES < lines.len() {
+        return Err(ExecFault::ResultTooLong);
+    }
+    Ok(Many::new(lines))
+}

@@ -1,0 +1,64 @@
+//! Queries.
+ghost use Rattle.std.specs.Prelude.{◌≡◌, ◌+◌, ◌≤◌, false, None, [], Ok, length, map};
+ghost use Rattle.geo_base.specs.Results.{Gives};
+ghost use Rattle.geo_base.specs.declared.limits.TheConstants.{MAX_LINE_CELLS};
+ghost use Rattle.row_source.specs.Bounds.{steps_of};
+ghost use Rattle.row_source.specs.Handing.{IsPlanFor, LeavesOut};
+ghost use Rattle.row_source.specs.declared.fault.ExecFault.TheVariants as fault;
+ghost use Rattle.sql_bind.specs.Sound.{IsSoundSelect};
+ghost use Rattle.sql_exec.specs.Answers.{answer_of};
+ghost use Rattle.sql_exec.specs.inner.Plain.{plain_answer};
+ghost use Rattle.sql_expr.specs.Conditions.{kept};
+
+use crate::keeping::kept_rows;
+use crate::lines::{lines_over, unless_too_long};
+use crate::lock::LineList;
+use crate::reaching::reached_rows;
+use geo_base::RowImage;
+use row_source::{ExecFault, Plan, RowSource, Steps};
+use sql_bind::BoundSelect;
+use std::alloc::Global;
+use std::sync::ledger::Ledger;
+
+/// The lines of those of the rows that the tests of a query keep.
+#[tactic(auto, unfolding(crate::specs::inner::Plain::plain_answer))]
+fn plain_answer(
+    alloc: Global,
+    query: &BoundSelect,
+    rows: &[&RowImage],
+) -> Result<LineList, ExecFault>
+    requires some { 1 ≤ length query.now.items }
+    requires few { length query.now.items ≤ MAX_LINE_CELLS }
+    ensures { Gives fault.NoMemory (λ l. l) result (plain_answer query.now.items query.now.tests (map (λ row. row.now) rows.now)) }
+{
+    let kept = kept_rows(alloc, query.tests.items(), rows)?;
+    let lines = lines_over(alloc, query.items.items(), kept.as_slice())?;
+    unless_too_long(lines)
+}
+
+/// What a query of one table without groups, order and limit answers by a plan that leaves out only rows that its
+/// tests drop: its lines in the order of keys, or its first fault. The rows that the plan hands out are tested
+/// first, one after another; then their lines are made; and then more than [`group_exec::limits::MAX_LINES`] of
+/// them are [`ExecFault::ResultTooLong`]. The cost is what the source takes to hand the rows out, and a step for
+/// each of them and each test, item and cell of a line; a text is copied only into a line.
+pub fn select_by<R: RowSource, L: Ledger>(
+    alloc: Global,
+    query: &BoundSelect,
+    source: &R,
+    plan: Plan,
+    steps: &mut Steps<L>,
+) -> Result<LineList, ExecFault>
+    requires query { IsSoundSelect (R.tables source.now) query.now }
+    requires one { length query.now.tables ≡ 1 }
+    requires ungrouped { query.now.grouped ≡ false }
+    requires unordered { query.now.order ≡ [] }
+    requires uncut { query.now.limit ≡ None }
+    requires fits { IsPlanFor (R.tables source.now) query.now.tables plan }
+    requires leaves_out { LeavesOut (R.tables source.now) query.now.tables plan (R.rows source.now) (λ cells. kept cells query.now.tests ≡ Ok false) }
+    ensures answer { Gives fault.NoMemory (λ l. l) result (answer_of query.now (R.rows source.now)) }
+    ensures steps { steps.new ≤ steps.old + steps_of (R.tables source.now) query.now.tables plan (R.rows source.now) }
+{
+    let table = query.tables.items()[0];
+    let rows = reached_rows(alloc, source, table, plan.first, steps)?;
+    plain_answer(alloc, query, rows.as_slice())
+}
