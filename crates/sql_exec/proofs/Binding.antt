@@ -1,5 +1,5 @@
 -- Steps behind one another.
-use Rattle.std.proofs.Common.{◌≡◌, Result, Ok, Err, refl, ap}
+use Rattle.std.proofs.Common.{◌≡◌, Result, Ok, Err, refl}
 use Rattle.geo_base.specs.Results.{◌>>=◌}
 
 -- a step that only answers again changes nothing

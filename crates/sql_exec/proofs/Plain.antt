@@ -1,10 +1,9 @@
 -- What a query of one table answers that isn't grouped, sorted or cut: the lines of the rows that its tests keep.
-use Rattle.std.proofs.Common.{◌≡◌, ℕ, Bool, true, false, if◌then◌else◌, None, Result, Ok, Err, List, [], ◌∷◌, ◌++◌, length, map, refl, sym, ap, subst, ◌∙◌}
-use Rattle.std.specs.Prelude.{nat_lt}
+use Rattle.std.proofs.Common.{◌≡◌, ℕ, Bool, true, false, if◌then◌else◌, None, Result, Ok, Err, List, [], ◌∷◌, ◌++◌, map, refl, ap, subst, ◌∙◌}
 use Rattle.std.proofs.lemmas.List.{append-nil, length-map, map-append}
 use Rattle.geo_base.specs.Results.{◌>>=◌}
 use Rattle.geo_base.specs.declared.cell.Cell.{Cell}
-use Rattle.group_exec.specs.Results.{LineOfRow, cut, grouped_of, lines_from, ordered, plain_cell, put_in, row_line, within_limit}
+use Rattle.group_exec.specs.Results.{LineOfRow, grouped_of, ordered, plain_cell, put_in, row_line, within_limit}
 use Rattle.row_source.specs.Matches.{alone, in_statement, kept_of, matches_of, pair_cells}
 use Rattle.row_source.specs.Sources.{images, of_table}
 use Rattle.row_source.specs.declared.fault.ExecFault.{ExecFault}

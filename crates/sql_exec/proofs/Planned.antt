@@ -1,14 +1,13 @@
 -- A query answers by a plan what it answers without one: the rows that the plan leaves out are dropped by the tests.
-use Rattle.std.proofs.Common.{◌≡◌, ℕ, Bool, true, false, ◌&&◌, if◌then◌else◌, nat_eq, None, Result, Ok, Err, List, [], ◌∷◌, ◌++◌, length, map, get_or, refl, sym, ap, subst, ◌∙◌, arith}
+use Rattle.std.proofs.Common.{◌≡◌, ℕ, Bool, true, false, ◌&&◌, if◌then◌else◌, nat_eq, None, Result, Ok, List, [], ◌∷◌, length, get_or, refl, sym, ap, subst, ◌∙◌, arith}
 use Rattle.std.specs.List.{Contains, filter}
 use Rattle.std.proofs.lemmas.Bool.{both_ways, eq-eqb, eqb-true}
 use Rattle.std.proofs.lemmas.List.Elements.{Contains-append_left, Contains-append_right, Contains-push}
-use Rattle.geo_base.specs.Order.{row_eq}
 use Rattle.geo_base.specs.Results.{◌>>=◌}
 use Rattle.geo_base.specs.declared.cell.Cell.{Cell}
 use Rattle.geo_base.specs.declared.row_id.RowId.{RowId}
 use Rattle.geo_base.specs.laws.Orders.{row_eq_decides}
-use Rattle.geo_schema.specs.Schemas.{Tables, table_at}
+use Rattle.geo_schema.specs.Schemas.{Tables}
 use Rattle.row_source.specs.Handing.{LeavesOut, reaches, row_named}
 use Rattle.row_source.specs.Matches.{in_statement, kept_of}
 use Rattle.row_source.specs.Sources.{Entry, images, of_table}

@@ -1,12 +1,12 @@
 -- How many rows are handed out, and what a range without edges and a point reach.
-use Rattle.std.proofs.Common.{◌≡◌, ℕ, ◌+◌, ◌≤◌, Bool, true, false, ◌&&◌, nat_eq, List, [], ◌∷◌, length, map, refl, sym, ap, ◌∙◌}
+use Rattle.std.proofs.Common.{◌≡◌, ℕ, Bool, true, false, nat_eq, List, [], ◌∷◌, length, map, refl, sym, ap, ◌∙◌}
 use Rattle.std.specs.List.{filter}
 use Rattle.std.proofs.lemmas.List.{length-map}
 use Rattle.geo_base.specs.declared.cell.Cell.{Cell}
 use Rattle.geo_schema.specs.Ranges.{is_within}
 use Rattle.geo_schema.specs.declared.range.Edge.TheVariants.{Open}
 use Rattle.geo_schema.specs.declared.range.KeyRange.{KeyRange}
-use Rattle.row_source.specs.Sources.{Entry, images, is_by_key, of_table}
+use Rattle.row_source.specs.Sources.{images, is_by_key, of_table}
 use Rattle.write_set.specs.Overlay.{Table}
 
 -- what is handed out as the images of rows is as many as they are

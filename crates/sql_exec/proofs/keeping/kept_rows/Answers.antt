@@ -1,4 +1,4 @@
-use Rattle.std.proofs.Common.{Bor, List, inr, ap}
+use Rattle.std.proofs.Common.{Bor, inr}
 use Rattle.std.proofs.lemmas.Result.{err_from_is_err_and}
 use Rattle.geo_base.specs.declared.row_image.RowImage.{RowImage}
 use Rattle.sql_exec.proofs.Kept.{all_kept, one_dropped, one_fault, one_kept}
