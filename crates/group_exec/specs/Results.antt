@@ -74,7 +74,7 @@ put_in sorts l [] = l ∷ []
 put_in sorts l (m ∷ ms) = if is_gt (by_all sorts l m) then m ∷ put_in sorts l ms else l ∷ m ∷ ms
 
 -- the lines in the order of ORDER BY, where ties, and all lines without one, stay in the order of their keys or of their
--- groups' cells; a law says that this is the one list with these lines that is sorted so
+-- groups' cells
 abbrev pub ordered : List Sort → List LineOfRow → List LineOfRow
 ordered sorts [] = []
 ordered sorts (l ∷ rest) = put_in sorts l (ordered sorts rest)

@@ -60,7 +60,7 @@ abbrev pub unless : Option ExecFault → List Cell → Result (List Cell) ExecFa
 unless (Some e) cells = Err e
 unless None cells = Ok cells
 
--- the cells of a row, tested in the order of the columns: a law says that this is geo_schema's rule of rows
+-- the cells of a row, tested in the order of the columns
 abbrev pub fitting : TableDef → List Cell → Result (List Cell) ExecFault
 fitting table cells = unless (first_column_fault table 0 table.columns cells) cells
 

@@ -114,7 +114,8 @@ fn join_by_parts(links: &[Link], parts: Option<Vec<KeyPart>>) -> JoinKind
     join_by_links(links)
 }
 
-/// The join to the right table, by its tests and links. Takes a step for each test and link and column of the key.
+/// The join to the right table, by its tests and links. Takes, for each column of the key, a step for each test and
+/// link.
 #[tactic(auto, unfolding(crate::specs::Plans::join_of))]
 pub(crate) fn join_of(
     alloc: Global,

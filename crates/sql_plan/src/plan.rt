@@ -84,8 +84,8 @@ fn plan_of_two(
     })
 }
 
-/// The plan of a statement over one table or two, by its conjuncts. Takes some steps for each of them, for each column
-/// of a key or an index, and for each pair of these.
+/// The plan of a statement over one table or two, by its conjuncts. Walks each of them once; then takes, for each column
+/// of a key or an index, a step for each conjunct that tests a column or links two.
 #[tactic(auto, using(crate::proofs::Numbers::one_number, crate::proofs::Numbers::two_numbers, crate::proofs::Fitting::chosen_fits))]
 pub fn plan_of(
     alloc: Global,
