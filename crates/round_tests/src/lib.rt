@@ -10,9 +10,9 @@ mod by_hand;
 #[cfg(test)]
 mod counting;
 #[cfg(test)]
-mod finishing;
-#[cfg(test)]
 mod outcomes;
+#[cfg(test)]
+mod playing;
 #[cfg(test)]
 mod threads;
 #[cfg(test)]

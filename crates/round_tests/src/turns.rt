@@ -1,47 +1,12 @@
-//! A round that two seats work in turns.
-ghost use Rattle.std.specs.Prelude.{◌≤◌, All, IfOk, IfSome, length};
-ghost use Rattle.geo_base.specs.declared.limits.TheConstants.{MAX_REGIONS};
-ghost use Rattle.write_set.specs.Journal.{AreBatches};
-ghost use Rattle.merge_round.specs.Seats.{round_of, IsWorkerOf, IsNewWorkerOf};
+//! A round that its first two seats work in turns.
+ghost use Rattle.std.specs.Prelude.{◌≡◌, All};
+ghost use Rattle.merge_round.specs.Seats.{round_of, work_of, IsWorkerOf};
+ghost use Rattle.merge_round.specs.Gathers.{AreAllSeats};
 
 use crate::counting::{Asked, Counting};
-use geo_base::Epoch;
-use merge_round::{BatchList, Claimed, Judgement, MergeRound, RoundInput, Verdict, WorkerSeat};
-use std::alloc::Global;
+use merge_round::{Claimed, Judgement, MergeRound, Verdict, WorkerSeat, equal_shares_serve};
 use std::fmt::Write;
 use std::test::Fail;
-
-/// A round with two seats.
-pub fn seated<'a>(
-    alloc: Global,
-    epoch: Epoch,
-    batches: BatchList,
-    before: Counting<'a>,
-) -> Result<(MergeRound<Counting<'a>>, WorkerSeat, WorkerSeat), Fail>
-    requires regions { length batches ≤ MAX_REGIONS }
-    requires lawful { AreBatches 0 epoch batches }
-    ensures first { IfOk result (λ made. IsWorkerOf (round_of made.0) made.1) }
-    ensures second { IfOk result (λ made. IsWorkerOf (round_of made.0) made.2) }
-{
-    let input = RoundInput {
-        epoch,
-        batches,
-        before,
-    };
-    let (round, mut seats) = MergeRound::new(alloc, input, 2)?;
-    let b = last_seat(&round, &mut seats).ok_or("a seat is missing")?;
-    let a = last_seat(&round, &mut seats).ok_or("a seat is missing")?;
-    Ok((round, a, b))
-}
-
-/// Takes the last seat out.
-fn last_seat(round: &MergeRound<Counting>, seats: &mut Vec<WorkerSeat>) -> Option<WorkerSeat>
-    requires { All (IsNewWorkerOf (round_of round.now)) seats.old.items }
-    ensures seat { IfSome result (IsWorkerOf (round_of round.now)) }
-    ensures rest { All (IsNewWorkerOf (round_of round.now)) seats.new.items }
-{
-    seats.pop()
-}
 
 fn add_claimed(out: &mut String, claimed: Claimed) -> Result<(), Fail> {
     match claimed {
@@ -78,30 +43,84 @@ fn add_verdict(out: &mut String, verdict: Verdict) -> Result<(), Fail> {
     Ok(())
 }
 
-/// Lets the seats take these turns, and tells their answers: `a` and `b` let that seat claim, `A` and `B` let
-/// it judge. A digit says that the last change of the row with this key may have been asked for once since
-/// the last `?`, which tells how many calls more there were.
+/// Lets the seat claim, or else judge, and tells its answer.
+fn add_turn(
+    out: &mut String,
+    round: &MergeRound<Counting>,
+    seat: &mut WorkerSeat,
+    claims: bool,
+) -> Result<(), Fail>
+    requires { IsWorkerOf (round_of round.now) seat.old }
+    ensures seat { IsWorkerOf (round_of round.now) seat.new }
+    ensures shares { (work_of seat.new).shares ≡ (work_of seat.old).shares }
+{
+    if claims {
+        add_claimed(out, round.claim_next(seat))
+    } else {
+        add_judgement(out, round.judge_next(seat))
+    }
+}
+
+/// Lets the seat in this place take its turn.
+fn add_turn_of(
+    out: &mut String,
+    round: &MergeRound<Counting>,
+    seats: &mut [WorkerSeat],
+    place: usize,
+    claims: bool,
+) -> Result<(), Fail>
+    requires seats { All (IsWorkerOf (round_of round.now)) seats.old }
+    requires all { AreAllSeats (round_of round.now) seats.old }
+    ensures seats { All (IsWorkerOf (round_of round.now)) seats.new }
+    ensures all { AreAllSeats (round_of round.now) seats.new }
+{
+    if place >= seats.len() {
+        return Err("no such seat".into());
+    }
+    equal_shares_serve();
+    add_turn(out, round, &mut seats[place], claims)
+}
+
+/// The seat whose turn the letter is, and whether it claims.
+fn turn_of(letter: u8) -> Option<(usize, bool)> {
+    match letter {
+        b'a' => Some((0, true)),
+        b'b' => Some((1, true)),
+        b'A' => Some((0, false)),
+        b'B' => Some((1, false)),
+        _ => None,
+    }
+}
+
+/// A digit says that the last change of the row with this key may have been asked for once since the last `?`,
+/// which tells how many calls more there were.
+fn add_count(out: &mut String, asked: &Asked, letter: u8) -> Result<(), Fail> {
+    if letter == b'?' {
+        write!(out, "{} more; ", asked.left())?;
+    } else {
+        asked.forgive(letter.wrapping_sub(b'0'));
+    }
+    Ok(())
+}
+
+/// Lets the seats take these turns, and tells their answers: `a` and `b` let the first or the second seat claim, `A`
+/// and `B` let it judge. What else stands there is of the last changes that were asked for.
 pub fn add_turns(
     out: &mut String,
     round: &MergeRound<Counting>,
-    a: &mut WorkerSeat,
-    b: &mut WorkerSeat,
+    seats: &mut [WorkerSeat],
     turns: &str,
     asked: &Asked,
 ) -> Result<(), Fail>
-    requires first { IsWorkerOf (round_of round.now) a.old }
-    requires second { IsWorkerOf (round_of round.now) b.old }
-    ensures first { IsWorkerOf (round_of round.now) a.new }
-    ensures second { IsWorkerOf (round_of round.now) b.new }
+    requires seats { All (IsWorkerOf (round_of round.now)) seats.old }
+    requires all { AreAllSeats (round_of round.now) seats.old }
+    ensures seats { All (IsWorkerOf (round_of round.now)) seats.new }
+    ensures all { AreAllSeats (round_of round.now) seats.new }
 {
-    for turn in turns.bytes() {
-        match turn {
-            b'a' => add_claimed(out, round.claim_next(a))?,
-            b'b' => add_claimed(out, round.claim_next(b))?,
-            b'A' => add_judgement(out, round.judge_next(a))?,
-            b'B' => add_judgement(out, round.judge_next(b))?,
-            b'?' => write!(out, "{} more; ", asked.left())?,
-            _ => asked.forgive(turn.wrapping_sub(b'0')),
+    for letter in turns.bytes() {
+        match turn_of(letter) {
+            Some((place, claims)) => add_turn_of(out, round, seats, place, claims)?,
+            None => add_count(out, asked, letter)?,
         }
     }
     Ok(())
