@@ -13,7 +13,7 @@ use Rattle.page_map.specs.declared.shelf.Shelf.{Shelf}
 use Rattle.page_map.specs.Pairs.{put_in, without}
 use Rattle.page_map.specs.inner.Cuts.{IsInChunk}
 use Rattle.page_map.specs.inner.Chunks.{shared_entries, shelf_entries, IsChunk, IsShelf}
-use Rattle.page_map.proofs.Orders.{put_length, put_some, without_length}
+use Rattle.page_map.specs.laws.Orders.{put_length, put_some, without_length}
 use Rattle.page_map.proofs.Flats.{All-remove}
 use Rattle.page_map.proofs.Chunks.{three_lengths, set_lengths, same_pairs, emptied, chunk_put, chunk_without}
 use Rattle.page_map.proofs.Shelves.{IsRight, chunk_read, chunk_small}

@@ -3,9 +3,9 @@ use Rattle.std.proofs.Common.{◌≡◌, ℕ, suc, ◌+◌, ◌-◌, ◌<◌, �
 use Rattle.std.specs.List.{flat_map, remove}
 use Rattle.std.specs.declared.cmp.Ordering.{Ordering}
 use Rattle.std.proofs.lemmas.List.{take-set, drop-set-lt}
-use Rattle.page_map.specs.Pairs.{IsRising, found_at, put_in, without, place_in}
+use Rattle.page_map.specs.Pairs.{IsRising, found_at, put_in, without}
 use Rattle.page_map.specs.inner.Cuts.{IsCut, IsInChunk}
-use Rattle.page_map.proofs.Orders.{put_framed, without_framed, place_framed, found_framed, rising_mid}
+use Rattle.page_map.specs.laws.Orders.{put_framed, without_framed, found_framed, rising_mid}
 use Rattle.page_map.proofs.Flats.{flat_read, flat_set, flat_remove}
 
 -- the number of all pairs, by what stands before, in and behind a chunk
@@ -48,11 +48,6 @@ module _ {K V X : Type 0} (R : K → K → Ordering) (entries : X → List (K ×
   chunk_found c read =
       ap (found_at R key) (flat_read entries cs i x c.within read)
       ∙ found_framed R key (flat_map entries (take i cs)) (entries x) (flat_map entries (drop (i + 1) cs)) c.cut
-
-  pub chunk_place : IsInChunk R entries key cs i → x ≡ get_or cs i x → place_in R key (flat_map entries cs) ≡ length (flat_map entries (take i cs)) + place_in R key (entries x)
-  chunk_place c read =
-      ap (place_in R key) (flat_read entries cs i x c.within read)
-      ∙ place_framed R key (flat_map entries (take i cs)) (entries x) (flat_map entries (drop (i + 1) cs)) c.cut
 
   pub chunk_put : (value : V) (y : X) → IsInChunk R entries key cs i → x ≡ get_or cs i x → entries y ≡ put_in R key value (entries x) → flat_map entries (set cs i y) ≡ put_in R key value (flat_map entries cs)
   chunk_put value y c read e =

@@ -9,10 +9,10 @@ use Rattle.std.proofs.lemmas.Option.{slice_get-get_or, slice_get_within, get_or_
 use Rattle.std.proofs.lemmas.Bool.{cases_lt}
 use Rattle.std.proofs.lemmas.List.Concat.{flat_map-append}
 use Rattle.std.proofs.lemmas.List.Elements.{All-nil, All-cons, All-head, All-tail, All-append, All-take, All-drop}
-use Rattle.page_map.proofs.Lists.{pieces}
+use Rattle.page_map.specs.laws.Lists.{pieces}
 
 module _ {X P : Type 0} (e : X → List P) where
-  pub flat_at : (cs : List X) (i : ℕ) (d : X) → i < length cs → flat_map e cs ≡ flat_map e (take i cs) ++ (e (get_or cs i d) ++ flat_map e (drop (i + 1) cs))
+  flat_at : (cs : List X) (i : ℕ) (d : X) → i < length cs → flat_map e cs ≡ flat_map e (take i cs) ++ (e (get_or cs i d) ++ flat_map e (drop (i + 1) cs))
   flat_at cs i d within =
       sym (ap (flat_map e) (pieces cs i d within)) ∙ flat_map-append e (take i cs) (get_or cs i d ∷ drop (i + 1) cs)
 
@@ -59,13 +59,13 @@ module _ {X P : Type 0} (e : X → List P) (cs : List X) where
   pub length_more : (i : ℕ) (x : X) → i < length cs → x ≡ get_or cs i x → length (flat_map e (take (i + 1) cs)) ≡ length (flat_map e (take i cs)) + length (e x)
   length_more i x within read = ap length (flat_more i x within read) ∙ length-append (flat_map e (take i cs)) (e x)
 
-  pub two_lengths : (i : ℕ) → length (flat_map e cs) ≡ length (flat_map e (take i cs)) + length (flat_map e (drop i cs))
-  two_lengths i =
-      ap length (sym (ap (flat_map e) (take-append-drop i cs)) ∙ flat_map-append e (take i cs) (drop i cs))
-      ∙ length-append (flat_map e (take i cs)) (flat_map e (drop i cs))
-
   pub two_parts : (i : ℕ) → flat_map e cs ≡ flat_map e (take i cs) ++ flat_map e (drop i cs)
   two_parts i = sym (ap (flat_map e) (take-append-drop i cs)) ∙ flat_map-append e (take i cs) (drop i cs)
+
+  pub two_lengths : (i : ℕ) → length (flat_map e cs) ≡ length (flat_map e (take i cs)) + length (flat_map e (drop i cs))
+  two_lengths i =
+      ap length (two_parts i)
+      ∙ length-append (flat_map e (take i cs)) (flat_map e (drop i cs))
 
   -- the walk to a place
   pub walking_first : (place count : ℕ) (x : X) → place < length (flat_map e cs) → x ≡ get_or cs 0 x → count ≡ length (e x) → IsWalking e cs place 0 place count
@@ -94,25 +94,6 @@ module _ {X P : Type 0} (e : X → List P) (cs : List X) where
     read = read;
     counted = counted;
   }
-
-  pub walking_inside : (place chunk rest count : ℕ) → IsWalking e cs place chunk rest count → rest < count → (d : X) → rest < length (e (get_or cs chunk d))
-  walking_inside place chunk rest count w h d =
-      subst (λ x. rest < length (e x)) (get_or_read cs chunk w.here w.within w.read d) (omega (arith, w.counted))
-
--- the first pair of all is that of the first chunk
-module _ {K V : Type 0} (R : K → K → Ordering) (key : K) where
-  head_append : (m b : List (K × V)) → 0 < length m → head_is_over R key (m ++ b) ≡ head_is_over R key m
-  head_append [] b some = absurd (omega arith)
-  head_append (p ∷ m) b some = refl
-
-  pub head_read : (l : List (K × V)) (p : K × V) → 0 < length l → p ≡ get_or l 0 p → is_gt (R p.0 key) ≡ head_is_over R key l
-  head_read [] p some read = absurd (omega arith)
-  head_read (q ∷ l) p some read = ap (λ r. is_gt (R r.0 key)) read
-
-  pub head_first : {X : Type 0} (e : X → List (K × V)) (cs : List X) (x : X) → 0 < length cs → x ≡ get_or cs 0 x → 0 < length (e x) → head_is_over R key (e x) ≡ head_is_over R key (flat_map e cs)
-  head_first e [] x within read some = absurd (omega arith)
-  head_first e (c ∷ cs) x within read some =
-      ap (λ y. head_is_over R key (e y)) read ∙ sym (head_append (e c) (flat_map e cs) (subst (λ y. 0 < length (e y)) read some))
 
 -- the pair at a place within a part
 pub pair_framed : {P : Type 0} (a m b : List P) (n : ℕ) (p : P) → slice_get m n ≡ Some p → slice_get (a ++ (m ++ b)) (length a + n) ≡ Some p

@@ -1,8 +1,8 @@
+pub mod Bordering
 pub mod Changes
 pub mod Chunks
 pub mod Flats
-pub mod Lists
-pub mod Orders
+pub mod Listings
 pub mod Pages
 pub mod Rooms
 pub mod Shelves

@@ -3,11 +3,11 @@ use Rattle.std.proofs.Common.{◌≡◌, ℕ, suc, ◌+◌, ◌<◌, ◌≤◌, 
 use Rattle.std.specs.List.{insert, remove}
 use Rattle.std.specs.declared.cmp.Ordering.{Ordering}
 use Rattle.std.specs.declared.cmp.Ordering.TheVariants.{Equal}
-use Rattle.std.proofs.lemmas.List.{take-append-drop, set_split, length-take-le, get_or_default}
-use Rattle.page_map.specs.Pairs.{found_at, put_in, without, place_in}
+use Rattle.std.proofs.lemmas.List.{take-append-drop, set_split}
+use Rattle.page_map.specs.Pairs.{found_at, put_in, without}
 use Rattle.page_map.specs.inner.Cuts.{IsCut, IsFoundAt, IsGapAt}
-use Rattle.page_map.proofs.Lists.{pieces}
-use Rattle.page_map.proofs.Orders.{put_framed, without_framed, place_framed, found_framed, put_same, without_same, found_same, place_same}
+use Rattle.page_map.specs.laws.Lists.{pieces}
+use Rattle.page_map.specs.laws.Orders.{put_framed, without_framed, found_framed, put_same, without_same, found_same}
 
 module _ {K V : Type 0} (R : K → K → Ordering) (key : K) (l : List (K × V)) (i : ℕ) where
   whole_at : (p : K × V) → i < length l → p ≡ get_or l i p → l ≡ take i l ++ ((p ∷ []) ++ drop (i + 1) l)
@@ -25,26 +25,6 @@ module _ {K V : Type 0} (R : K → K → Ordering) (key : K) (l : List (K × V))
 
   pub page_none : IsGapAt R key l i → found_at R key l ≡ None
   page_none g = ap (found_at R key) whole_gap ∙ found_framed R key (take i l) [] (drop i l) g.cut
-
-  pub page_place : (p : K × V) → IsFoundAt R key l i → p ≡ get_or l i p → place_in R key l ≡ i
-  page_place p f read =
-      let n : length (take i l) ≡ i = length-take-le i l (omega (arith, f.within)) in
-      let m = ap (place_in R key) (whole_at p f.within read) ∙ place_framed R key (take i l) (p ∷ []) (drop (i + 1) l) f.cut in
-      omega (arith, m, place_same R key p (same_key p f read))
-
-  -- the same without the pair
-  pub page_place_found : IsFoundAt R key l i → place_in R key l ≡ i
-  page_place_found f = by l refl where
-    by : (m : List (K × V)) → m ≡ l → place_in R key l ≡ i
-    by [] e = absurd (omega (arith, f.within, ap length e))
-    by (d ∷ m) e =
-        page_place (get_or l i d) f (get_or_default l i d (get_or l i d) f.within)
-
-  pub page_gap_place : IsGapAt R key l i → place_in R key l ≡ i
-  page_gap_place g =
-      let n : length (take i l) ≡ i = length-take-le i l g.within in
-      let m = ap (place_in R key) whole_gap ∙ place_framed R key (take i l) [] (drop i l) g.cut in
-      omega (arith, m)
 
   pub page_set : (value : V) (p : K × V) → IsFoundAt R key l i → p ≡ get_or l i p → set l i (key, value) ≡ put_in R key value l
   page_set value p f read =

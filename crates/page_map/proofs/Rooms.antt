@@ -8,7 +8,7 @@ use Rattle.std.proofs.lemmas.List.Concat.{flat_map-append}
 use Rattle.std.proofs.lemmas.List.Elements.{All-cons, All-append, All-take, All-drop}
 use Rattle.page_map.specs.Pairs.{IsRising}
 use Rattle.page_map.specs.inner.Cuts.{AllUnder, AllOver, IsCut, IsInChunk, head_is_over}
-use Rattle.page_map.proofs.Orders.{part_over, part_under}
+use Rattle.page_map.specs.laws.Orders.{part_over, part_under}
 use Rattle.page_map.proofs.Flats.{flat_read, flat_halved}
 
 module _ {X : Type 0} (cs : List X) (i : ℕ) (first last : X) where
@@ -40,13 +40,6 @@ module _ {X : Type 0} (cs : List X) (i : ℕ) (first last : X) where
 
   pub halved_length : i < length cs → i + 1 < length halved
   halved_length within = omega (arith, length-append (take i cs) (first ∷ (last ∷ drop (i + 1) cs)), front_length within)
-
-  pub first_at : i < length cs → (d : X) → get_or halved i d ≡ first
-  first_at within d = get_or_at (take i cs) first (last ∷ drop (i + 1) cs) d i (front_length within)
-
-  pub last_at : i < length cs → (d : X) → get_or halved (i + 1) d ≡ last
-  last_at within d =
-      ap (λ l. get_or l (i + 1) d) behind_first ∙ get_or_at (take i cs ++ (first ∷ [])) last (drop (i + 1) cs) d (i + 1) (one_more within)
 
   pub halved_all : (P : X → Type 0) → All P cs → P first → P last → All P halved
   halved_all P h f l =

@@ -15,11 +15,6 @@ use Rattle.page_map.proofs.Chunks.{three_lengths, chunk_rising}
 use Rattle.page_map.proofs.Flats.{flat_values}
 use Rattle.page_map.proofs.Rooms.{halved, halved_all, halved_pairs}
 
--- what holds of the chunk that is read holds of the chunk at its place
-pub chunk_at_place : {C : Type 0} (room : C → Type 0) (cs : List (Arc C Global)) (i : ℕ) (x : Arc C Global) (chunk : C) → i < length cs → x ≡ get_or cs i x → chunk ≡ arc_value x → room chunk → (d : Arc C Global) → room (arc_value (get_or cs i d))
-chunk_at_place room cs i x chunk within read e r d =
-    subst (λ y. room (arc_value y)) (get_or_read cs i x within read d) (subst room e r)
-
 -- right chunks with these pairs, and how many pairs there are
 pub record IsRight {C P : Type 0} (entries : C → List P) (sound : C → Type 0) (pairs : List P) (cs : List (Arc C Global)) (count : ℕ) : Type 0 where
   pub chunks : All (IsChunk entries sound) cs
@@ -51,16 +46,6 @@ module _ {C P : Type 0} (entries : C → List P) (sound : C → Type 0) where
   -- a chunk has no more pairs than its shelf
   pub chunk_small : (shelf : Shelf C) (i : ℕ) (x : Arc C Global) → i < length shelf.chunks.items → x ≡ get_or shelf.chunks.items i x → length (entries (arc_value x)) ≤ length (shelf_entries entries shelf)
   chunk_small shelf i x within read = omega (arith, three_lengths (shared_entries entries) shelf.chunks.items i x within read)
-
-  -- the same chunks
-  pub shelf_same : (old new : Shelf C) → IsShelf entries sound old → new.count ≡ old.count → new.chunks.items ≡ old.chunks.items → IsShelf entries sound new
-  shelf_same old new s count items =
-      let same = ap (λ l. length (flat_map (shared_entries entries) l)) items in
-      record {
-        counted = omega (arith, s.counted);
-        chunks = All-same (IsChunk entries sound) new.chunks.items old.chunks.items items s.chunks;
-        small = omega (arith, s.small);
-      }
 
   -- two chunks in the place of one
   pub shelf_halved : (old new : Shelf C) (i : ℕ) (x first last : Arc C Global) → IsShelf entries sound old → i < length old.chunks.items → x ≡ get_or old.chunks.items i x → entries (arc_value x) ≡ entries (arc_value first) ++ entries (arc_value last) → IsChunk entries sound first → IsChunk entries sound last → new.count ≡ old.count → new.chunks.items ≡ halved old.chunks.items i first last → IsShelf entries sound new

@@ -1,16 +1,16 @@
 -- The steps of the searches.
-use Rattle.std.proofs.Common.{◌≡◌, ℕ, ◌+◌, ◌-◌, ◌<◌, ◌≤◌, Bool, true, false, List, [], ◌∷◌, ◌++◌, length, take, drop, get_or, refl, ap, sym, ◌∙◌, subst, arith}
-use Rattle.std.specs.List.{All, flat_map}
+use Rattle.std.proofs.Common.{◌≡◌, ℕ, ◌+◌, ◌-◌, ◌<◌, ◌≤◌, Bool, true, false, List, [], ◌∷◌, ◌++◌, length, take, drop, get_or, Some, refl, ap, sym, ◌∙◌, subst, arith}
+use Rattle.std.specs.List.{All, flat_map, slice_get}
 use Rattle.std.specs.Ordering.{is_gt}
 use Rattle.std.specs.declared.cmp.Ordering.{Ordering}
 use Rattle.std.specs.declared.cmp.Ordering.TheVariants.{Less, Equal, Greater}
 use Rattle.std.specs.Cmp.{IsTotalOrder}
 use Rattle.std.proofs.lemmas.List.{drop_more, take_more, drop_all, get_or_read}
 use Rattle.std.proofs.lemmas.List.Elements.{All-nil, All-cons, All-append}
-use Rattle.page_map.specs.Pairs.{IsRising, found_at, put_in, without, place_in}
+use Rattle.page_map.specs.Pairs.{IsRising, found_at, put_in, without}
 use Rattle.page_map.specs.inner.Cuts.{AllUnder, AllOver, IsCut, IsSearching, IsNarrowing, IsFoundAt, IsGapAt, IsInChunk, head_is_over}
-use Rattle.page_map.proofs.Lists.{pieces}
-use Rattle.page_map.proofs.Orders.{cut_before, cut_from, cut_after, part_over, part_under}
+use Rattle.page_map.specs.laws.Lists.{pieces}
+use Rattle.page_map.specs.laws.Orders.{cut_before, cut_from, cut_after, part_over, part_under}
 use Rattle.page_map.proofs.Flats.{flat_read, flat_from}
 
 module _ {K V : Type 0} (R : K → K → Ordering) (total : IsTotalOrder R) (key : K) (l : List (K × V)) (rising : IsRising R l) where
@@ -29,16 +29,6 @@ module _ {K V : Type 0} (R : K → K → Ordering) (total : IsTotalOrder R) (key
   step_greater i p within read e =
       let same : drop i l ≡ p ∷ drop (i + 1) l = drop_more l i p within ∙ ap (λ q. q ∷ drop (i + 1) l) (sym read) in
       subst (AllOver R key) (sym same) (cut_from R total key (take i l) p (drop (i + 1) l) (around i p within read) e)
-
-  pub searching_first : IsSearching R key l 0 (length l)
-  searching_first = record {
-    ordered = omega arith;
-    within = omega arith;
-    cut = record {
-      under = All-nil (λ q. R q.0 key ≡ Less);
-      over = subst (AllOver R key) (sym (drop_all (length l) l (omega arith))) (All-nil (λ q. R q.0 key ≡ Greater));
-    };
-  }
 
   pub searching_less : (low high i : ℕ) (p : K × V) → IsSearching R key l low high → i < high → p ≡ get_or l i p → R p.0 key ≡ Less → IsSearching R key l (i + 1) high
   searching_less low high i p s h read e = record {
@@ -64,25 +54,7 @@ module _ {K V : Type 0} (R : K → K → Ordering) (total : IsTotalOrder R) (key
     same = λ d. subst (λ (q : K × V). R q.0 key ≡ Equal) (get_or_read l i p within read d) e;
   }
 
-  pub gap_there : (low high : ℕ) → IsSearching R key l low high → high ≤ low → IsGapAt R key l low
-  gap_there low high s h =
-      let same : high ≡ low = omega (arith, s.ordered) in
-      record {
-        within = omega (arith, s.ordered, s.within);
-        cut = subst (λ n. IsCut R key (take low l) (drop n l)) same s.cut;
-      }
-
 module _ {K V X : Type 0} (R : K → K → Ordering) (total : IsTotalOrder R) (entries : X → List (K × V)) (key : K) (cs : List X) (rising : IsRising R (flat_map entries cs)) where
-  pub narrowing_first : 0 < length cs → IsNarrowing R entries key cs 0 (length cs)
-  narrowing_first some = record {
-    ordered = some;
-    within = omega arith;
-    cut = record {
-      under = All-nil (λ q. R q.0 key ≡ Less);
-      over = subst (λ t. AllOver R key (flat_map entries t)) (sym (drop_all (length cs) cs (omega arith))) (All-nil (λ q. R q.0 key ≡ Greater));
-    };
-  }
-
   pub narrowing_down : (low high i : ℕ) (x : X) → IsNarrowing R entries key cs low high → low < i → i < high → x ≡ get_or cs i x → head_is_over R key (entries x) ≡ true → IsNarrowing R entries key cs low i
   narrowing_down low high i x s g h read e =
       let within : i < length cs = omega (arith, s.within) in
@@ -108,10 +80,9 @@ module _ {K V X : Type 0} (R : K → K → Ordering) (total : IsTotalOrder R) (e
         };
       }
 
-  pub narrowed : (low high : ℕ) → IsNarrowing R entries key cs low high → high ≤ low + 1 → IsInChunk R entries key cs low
-  narrowed low high s h =
-      let same : high ≡ low + 1 = omega (arith, s.ordered) in
-      record {
-        within = omega (arith, s.ordered, s.within);
-        cut = record { under = s.cut.under; over = subst (λ n. AllOver R key (flat_map entries (drop n cs))) same s.cut.over };
-      }
+-- whether the first pair is above the key, by that pair
+pub head_at : {K V : Type 0} (R : K → K → Ordering) (key : K) (l : List (K × V)) (p : K × V) → slice_get l 0 ≡ Some p → is_gt (R p.0 key) ≡ head_is_over R key l
+head_at R key [] p at = absurd (cc)
+head_at R key (q ∷ l) p at =
+    let same : p ≡ q = cc in
+    ap (λ r. is_gt (R r.0 key)) same

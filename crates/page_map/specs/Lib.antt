@@ -1,2 +1,4 @@
+pub mod Borders
 pub mod Pairs
 pub mod inner
+pub mod laws

@@ -1,9 +1,10 @@
 //! What pages and shelves have in common.
-ghost use Rattle.std.specs.Prelude.{◌≡◌, ◌++◌, ◌<◌, ◌≤◌, [], ◌∷◌, length, Some, IfOk, OnOk, OnErr, IsTrue, IsFalse, option_copied};
+ghost use Rattle.std.specs.Prelude.{◌≡◌, ◌++◌, ◌<◌, ◌≤◌, [], ◌∷◌, length, map, take, drop, Some, IfOk, OnOk, OnErr, IsTrue, IsFalse, option_copied};
 ghost use Rattle.std.specs.List.{slice_get};
-ghost use Rattle.page_map.specs.Pairs.{IsRising, found_at, put_in, without, place_in};
-ghost use Rattle.page_map.specs.inner.Cuts.{head_is_over};
+ghost use Rattle.page_map.specs.Borders.{IsBorder, border_in};
+ghost use Rattle.page_map.specs.Pairs.{IsRising, found_at, put_in, without};
 
+use crate::border::Border;
 use geo_base::NoMemory;
 use std::alloc::Global;
 
@@ -39,12 +40,6 @@ pub(crate) trait Chunk<K: Ord, V>: Drop {
         ensures room { IsFalse result → room self.now }
         ensures full { IsTrue result → 2 ≤ parts self.now };
 
-    /// Whether its first key is above the key.
-    fn begins_above(&self, key: &K) -> bool
-        requires whole { sound self.now }
-        requires some { 0 < length (entries self.now) }
-        ensures { result ≡ head_is_over K.cmp key.now (entries self.now) };
-
     /// The value at the key.
     fn get(&self, key: &K) -> Option<&V>
         requires whole { sound self.now }
@@ -52,18 +47,29 @@ pub(crate) trait Chunk<K: Ord, V>: Drop {
         requires some { 0 < length (entries self.now) }
         ensures { option_copied result ≡ found_at K.cmp key.now (entries self.now) };
 
-    /// How many keys are below the key.
-    fn place_of(&self, key: &K) -> u64
+    /// How many keys stand before the border.
+    fn place_where<B: Border<K>>(&self, border: &B) -> u64
         requires whole { sound self.now }
-        requires rising { IsRising K.cmp (entries self.now) }
+        requires parted { IsBorder (B.before border.now) (entries self.now) }
         requires some { 0 < length (entries self.now) }
-        ensures { result ≡ place_in K.cmp key.now (entries self.now) };
+        ensures { result ≡ border_in (B.before border.now) (entries self.now) };
 
     /// The pair at the place.
     fn at(&self, place: u64) -> (&K, &V)
         requires whole { sound self.now }
         requires within { place < length (entries self.now) }
         ensures { slice_get (entries self.now) place ≡ Some (result.0.now, result.1.now) };
+
+    /// Adds so many pairs from the place on, or as many as there are, to those that were found.
+    fn list<'a>(
+        &'a self,
+        place: u64,
+        count: u64,
+        found: &mut Vec<(&'a K, &'a V)>,
+    ) -> Result<(), NoMemory>
+        requires whole { sound self.now }
+        requires within { place < length (entries self.now) }
+        ensures { OnOk result (map (λ pair. (pair.0.now, pair.1.now)) found.new.items ≡ map (λ pair. (pair.0.now, pair.1.now)) found.old.items ++ take count (drop place (entries self.entry.now))) };
 
     /// Puts the value at the key, and gives the one that was there.
     fn set(&mut self, alloc: Global, key: K, value: V) -> Result<Option<V>, NoMemory>

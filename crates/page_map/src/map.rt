@@ -1,9 +1,11 @@
 //! The map itself.
-ghost use Rattle.std.specs.Prelude.{◌≡◌, [], length, IfOk, OnOk, OnErr, option_copied};
+ghost use Rattle.std.specs.Prelude.{◌≡◌, [], length, map, slice_range, IfOk, OnOk, OnErr, option_copied};
 ghost use Rattle.std.specs.Option.{option_map};
 ghost use Rattle.std.specs.List.{slice_get};
+ghost use Rattle.page_map.specs.Borders.{IsBorder, border_in};
 ghost use Rattle.page_map.specs.Pairs.{IsRising, found_at, put_in, without, place_in};
 
+use crate::border::{Below, Border};
 use crate::chunk::Chunk;
 use crate::page::Page;
 use crate::root::{set_root, take_root};
@@ -81,7 +83,21 @@ impl<K: Ord + Duplicate + Drop, V: Duplicate + Drop> PageMap<K, V> {
         ensures { result ≡ place_in K.cmp key.now self.now }
     {
         match &self.root {
-            Some(root) => root.place_of(key),
+            Some(root) => root.place_where(&Below { key }),
+            None => 0,
+        }
+    }
+
+    /// How many keys stand before the border, which is the place of the first pair from it on. Costs what
+    /// [`place_of`] costs.
+    ///
+    /// [`place_of`]: PageMap::place_of
+    pub fn place_where<B: Border<K>>(&self, border: &B) -> u64
+        requires { IsBorder (B.before border.now) self.now }
+        ensures { result ≡ border_in (B.before border.now) self.now }
+    {
+        match &self.root {
+            Some(root) => root.place_where(border),
             None => 0,
         }
     }
@@ -101,6 +117,28 @@ impl<K: Ord + Duplicate + Drop, V: Duplicate + Drop> PageMap<K, V> {
             }
             None => None,
         }
+    }
+
+    /// The pairs at the places from the first on and before the last, in their order, and none behind the end of
+    /// the map. Takes memory for the answer, a look at counts as [`place_of`] for the first pair, and a step for
+    /// each.
+    ///
+    /// [`place_of`]: PageMap::place_of
+    pub fn between(&self, first: u64, last: u64) -> Result<Vec<(&K, &V)>, NoMemory>
+        ensures { IfOk result (λ found. map (λ pair. (pair.0.now, pair.1.now)) found.items ≡ slice_range self.now first last) }
+    {
+        let mut found = Vec::new(self.alloc);
+        let Some(root) = &self.root else {
+            return Ok(found);
+        };
+        if last <= first {
+            return Ok(found);
+        }
+        if root.count() <= first {
+            return Ok(found);
+        }
+        root.list(first, last - first, &mut found)?;
+        Ok(found)
     }
 
     /// Puts the value at the key, and gives the one that was there. An error leaves the map as it was.

@@ -1,10 +1,13 @@
 //! Pages: the pairs themselves, at the bottom of a map.
 ghost use Rattle.std.specs.Prelude.{◌≡◌, ◌<◌, ◌≤◌, length, IfOk, IfErr};
+ghost use Rattle.page_map.specs.Borders.{IsBorder, border_in};
 ghost use Rattle.page_map.specs.Pairs.{IsRising};
 ghost use Rattle.page_map.specs.inner.Cuts.{IsFoundAt, IsGapAt};
 
+use crate::border::Border;
 use crate::chunk::Chunk;
 use crate::limits::PAGE_PAIRS;
+use crate::listing::add_pairs;
 use geo_base::{Duplicate, NoMemory};
 use std::alloc::Global;
 use std::cmp::Ordering;
@@ -35,6 +38,36 @@ fn search<K: Ord, V>(page: &Page<K, V>, key: &K) -> Result<usize, usize>
     Err(low)
 }
 
+/// How many keys stand before the border.
+fn border_of<K, V, B: Border<K>>(page: &Page<K, V>, border: &B) -> usize
+    requires { IsBorder (B.before border.now) page.now.entries.items }
+    ensures { result ≡ border_in (B.before border.now) page.now.entries.items }
+{
+    let mut low = 0;
+    let mut high = page.entries.len();
+    while low < high {
+        let middle = low + (high - low) / 2;
+        if border.comes_after(&page.entries[middle].0) {
+            low = middle + 1;
+        } else {
+            high = middle;
+        }
+    }
+    low
+}
+
+/// A copy of a pair.
+fn copy_pair<K: Duplicate + Drop, V: Duplicate + Drop>(
+    alloc: Global,
+    pair: &(K, V),
+) -> Result<(K, V), NoMemory>
+    ensures { IfOk result (λ copy. copy ≡ pair.now) }
+{
+    let key = pair.0.copy(alloc)?;
+    let value = pair.1.copy(alloc)?;
+    Ok((key, value))
+}
+
 /// Copies of all pairs, in their order.
 fn copy_pairs<K: Duplicate + Drop, V: Duplicate + Drop>(
     alloc: Global,
@@ -44,7 +77,7 @@ fn copy_pairs<K: Duplicate + Drop, V: Duplicate + Drop>(
 {
     let mut copies = Vec::with_capacity(alloc, pairs.len())?;
     for pair in pairs {
-        copies.push((pair.0.copy(alloc)?, pair.1.copy(alloc)?))?;
+        copies.push(copy_pair(alloc, pair)?)?;
     }
     Ok(copies)
 }
@@ -76,10 +109,6 @@ impl<K: Ord + Duplicate + Drop, V: Duplicate + Drop> Chunk<K, V> for Page<K, V> 
         self.entries.len() >= PAGE_PAIRS
     }
 
-    fn begins_above(&self, key: &K) -> bool {
-        self.entries[0].0.cmp(key).is_gt()
-    }
-
     fn get(&self, key: &K) -> Option<&V> {
         match search(self, key) {
             Ok(place) => Some(&self.entries[place].1),
@@ -87,16 +116,27 @@ impl<K: Ord + Duplicate + Drop, V: Duplicate + Drop> Chunk<K, V> for Page<K, V> 
         }
     }
 
-    fn place_of(&self, key: &K) -> u64 {
-        match search(self, key) {
-            Ok(place) => place as u64,
-            Err(place) => place as u64,
-        }
+    fn place_where<B: Border<K>>(&self, border: &B) -> u64 {
+        border_of(self, border) as u64
     }
 
     fn at(&self, place: u64) -> (&K, &V) {
         let pair = &self.entries[place as usize];
         (&pair.0, &pair.1)
+    }
+
+    fn list<'a>(
+        &'a self,
+        place: u64,
+        count: u64,
+        found: &mut Vec<(&'a K, &'a V)>,
+    ) -> Result<(), NoMemory> {
+        let (_, behind) = self.entries.as_slice().split_at(place as usize);
+        if count < behind.len() as u64 {
+            let (front, _) = behind.split_at(count as usize);
+            return add_pairs(front, found);
+        }
+        add_pairs(behind, found)
     }
 
     fn set(&mut self, _alloc: Global, key: K, value: V) -> Result<Option<V>, NoMemory> {

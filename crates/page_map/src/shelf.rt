@@ -1,8 +1,10 @@
 //! Shelves: chunks beside one another, each of which several maps may share.
+use crate::border::Border;
 use crate::changing::{set_at, take_at};
 use crate::chunk::Chunk;
-use crate::finding::{count_before, find_place, place_for};
+use crate::finding::{border_chunk, count_before, find_place, place_for};
 use crate::limits::SHELF_CHUNKS;
+use crate::listing::add_chunks;
 use crate::making_room::make_room;
 use crate::parting::{parts_at, shelf_of};
 use geo_base::{Duplicate, NoMemory};
@@ -43,23 +45,28 @@ impl<K: Ord + Duplicate + Drop, V: Duplicate + Drop, C: Chunk<K, V>> Chunk<K, V>
         self.chunks.len() >= SHELF_CHUNKS
     }
 
-    fn begins_above(&self, key: &K) -> bool {
-        self.chunks[0].begins_above(key)
-    }
-
     fn get(&self, key: &K) -> Option<&V> {
         let place = place_for::<K, V, C>(self, key);
         self.chunks[place].get(key)
     }
 
-    fn place_of(&self, key: &K) -> u64 {
-        let place = place_for::<K, V, C>(self, key);
-        count_before::<K, V, C>(self, place) + self.chunks[place].place_of(key)
+    fn place_where<B: Border<K>>(&self, border: &B) -> u64 {
+        let place = border_chunk::<K, V, C, B>(self, border);
+        count_before::<K, V, C>(self, place) + self.chunks[place].place_where(border)
     }
 
     fn at(&self, place: u64) -> (&K, &V) {
         let (chunk, rest) = find_place::<K, V, C>(self, place);
         self.chunks[chunk].at(rest)
+    }
+
+    fn list<'a>(
+        &'a self,
+        place: u64,
+        count: u64,
+        found: &mut Vec<(&'a K, &'a V)>,
+    ) -> Result<(), NoMemory> {
+        add_chunks::<K, V, C>(self, place, count, found)
     }
 
     fn set(&mut self, alloc: Global, key: K, value: V) -> Result<Option<V>, NoMemory> {

@@ -1,5 +1,5 @@
 -- Inner: how a search parts a rising list of pairs at a key.
-use Rattle.std.specs.Prelude.{◌≡◌, ℕ, ◌+◌, ◌<◌, ◌≤◌, Bool, false, List, [], ◌∷◌, length, take, drop, slice_index_or}
+use Rattle.std.specs.Prelude.{◌≡◌, ℕ, ◌+◌, ◌<◌, ◌≤◌, Bool, true, false, List, [], ◌∷◌, ◌++◌, length, take, drop, slice_index_or}
 use Rattle.std.specs.Ordering.{is_gt}
 use Rattle.std.specs.List.{All, flat_map}
 use Rattle.std.specs.declared.cmp.Ordering.{Ordering}
@@ -59,3 +59,22 @@ pub record IsWalking {X P : Type 0} (entries : X → List P) (chunks : List X) (
   pub here : X
   pub read : here ≡ slice_index_or chunks chunk here
   pub counted : count ≡ length (entries here)
+
+-- the keys of the pairs before the low place stand before the border, and those from the high place on don't
+pub record IsBordered {K V : Type 0} (before : K → Bool) (pairs : List (K × V)) (low high : ℕ) : Type 0 where
+  pub ordered : low ≤ high
+  pub within : high ≤ length pairs
+  pub front : All (λ pair. before pair.0 ≡ true) (take low pairs)
+  pub rest : All (λ pair. before pair.0 ≡ false) (drop high pairs)
+
+-- the same over chunks, where the border may lie in the chunk at the low place
+pub record IsBorderedIn {K V X : Type 0} (before : K → Bool) (entries : X → List (K × V)) (chunks : List X) (low high : ℕ) : Type 0 where
+  pub ordered : low < high
+  pub within : high ≤ length chunks
+  pub front : All (λ pair. before pair.0 ≡ true) (flat_map entries (take low chunks))
+  pub rest : All (λ pair. before pair.0 ≡ false) (flat_map entries (drop high chunks))
+
+-- what was found, and so many pairs more from a place in a chunk on, are all that is to be found
+pub record IsListing {X P : Type 0} (entries : X → List P) (chunks : List X) (found all : List P) (chunk skipped left : ℕ) : Type 0 where
+  pub rest : found ++ take left (drop skipped (flat_map entries (drop chunk chunks))) ≡ all
+  pub inside : (d : X) → chunk < length chunks → skipped < length (entries (slice_index_or chunks chunk d))

@@ -2,7 +2,7 @@ use Rattle.std.proofs.Common.{◌≡◌, ◌<◌, length, ap, sym, ◌∙◌, su
 use Rattle.std.specs.Arc.{arc_value}
 use Rattle.page_map.specs.Pairs.{IsRising}
 use Rattle.page_map.specs.inner.Chunks.{IsTop, top_entries, root_entries}
-use Rattle.page_map.proofs.Orders.{rising_put}
+use Rattle.page_map.specs.laws.Orders.{rising_put}
 use Rattle.page_map.proofs.root.set_root.Goals as goal
 
 pub returns-in_ok-old-in-Some-clause-rising : goal.returns-in_ok-old-in-Some-clause-rising

@@ -2,7 +2,7 @@ use Rattle.std.proofs.Common.{sym, subst}
 use Rattle.std.specs.Arc.{arc_value}
 use Rattle.page_map.specs.Pairs.{IsRising}
 use Rattle.page_map.specs.inner.Chunks.{top_entries, root_entries}
-use Rattle.page_map.proofs.Orders.{rising_without}
+use Rattle.page_map.specs.laws.Orders.{rising_without}
 use Rattle.page_map.proofs.root.take_root.Goals as goal
 
 pub returns-clause-rising : goal.returns-clause-rising

@@ -1,4 +1,4 @@
--- Parts of lists: what holds of each item of them, and how they are put together.
+-- Laws: parts of lists, what holds of each item of them, and how they are put together.
 use Rattle.std.proofs.Common.{◌≡◌, ℕ, ◌+◌, ◌<◌, ◌≤◌, Bool, true, false, List, [], ◌∷◌, ◌++◌, length, take, drop, get_or, refl, ap, sym, ◌∙◌, append_assoc}
 use Rattle.std.specs.List.{All, filter}
 use Rattle.std.proofs.lemmas.List.{drop_more, take-append-drop}

@@ -1,4 +1,4 @@
--- Rising lists of pairs, and what a key cuts off them.
+-- Laws: rising lists of pairs, and what a key cuts off them.
 use Rattle.std.proofs.Common.{◌≡◌, ℕ, ◌+◌, ◌<◌, ◌≤◌, Bool, true, false, cond, List, [], ◌∷◌, ◌++◌, length, Option, Some, None, if◌then◌else◌, refl, ap, sym, ◌∙◌, subst, arith, append_assoc, length-append}
 use Rattle.std.specs.List.{All, filter}
 use Rattle.std.specs.Ordering.{is_lt, is_eq, is_gt, ordering_reverse}
@@ -9,9 +9,9 @@ use Rattle.std.proofs.lemmas.Bool.{true≢false, cond_both}
 use Rattle.std.proofs.lemmas.Cmp.{alike_right}
 use Rattle.std.proofs.lemmas.List.{append-nil}
 use Rattle.std.proofs.lemmas.List.Elements.{All-nil, All-cons, All-head, All-tail, All-weaker, All-append, All-filter, filter-append, filter_passes}
-use Rattle.page_map.specs.Pairs.{IsRising, below, above, found_at, put_in, without, place_in}
+use Rattle.page_map.specs.Pairs.{IsRising, below, above, found_at, put_in, without}
 use Rattle.page_map.specs.inner.Cuts.{AllUnder, AllOver, IsCut, head_is_over}
-use Rattle.page_map.proofs.Lists.{All-left, All-right, filter_all, filter_none}
+use Rattle.page_map.specs.laws.Lists.{All-left, All-right, filter_all, filter_none}
 
 -- ---- what stands before and behind a cut stays as it is
 
@@ -31,7 +31,7 @@ module _ {K V : Type 0} (R : K → K → Ordering) (key : K) where
   below_under : (xs : List (K × V)) → AllUnder R key xs → below R key xs ≡ xs
   below_under xs h = filter_all lt xs (All-weaker Under (λ p. lt p ≡ true) (λ p e. ap is_lt e) xs h)
 
-  below_over : (xs : List (K × V)) → AllOver R key xs → below R key xs ≡ []
+  pub below_over : (xs : List (K × V)) → AllOver R key xs → below R key xs ≡ []
   below_over xs h = filter_none lt xs (All-weaker Over (λ p. lt p ≡ false) (λ p e. ap is_lt e) xs h)
 
   above_under : (xs : List (K × V)) → AllUnder R key xs → above R key xs ≡ []
@@ -66,23 +66,25 @@ module _ {K V : Type 0} (R : K → K → Ordering) (key : K) where
       ∙ (append_assoc a (below R key m) (above R key m ++ b)
       ∙ ap (λ l. a ++ l) (sym (append_assoc (below R key m) (above R key m) b))))
 
-  pub place_framed : (a m b : List (K × V)) → IsCut R key a b → place_in R key (a ++ (m ++ b)) ≡ length a + place_in R key m
-  place_framed a m b c = ap length (below_framed a m b c) ∙ length-append a (below R key m)
+  -- pairs of other keys are passed by
+  abbrev Other : K × V → Type 0
+  Other p = is_eq (R p.0 key) ≡ false
 
-  found_under : (a l : List (K × V)) → AllUnder R key a → found_at R key (a ++ l) ≡ found_at R key l
-  found_under [] l h = refl
-  found_under (p ∷ a) l h = rw (All-head Under p a h) (found_under a l (All-tail Under p a h))
+  pub found_past : (a l : List (K × V)) → All Other a → found_at R key (a ++ l) ≡ found_at R key l
+  found_past [] l h = refl
+  found_past (p ∷ a) l h = rw (All-head Other p a h) (found_past a l (All-tail Other p a h))
 
-  found_over : (b : List (K × V)) → AllOver R key b → found_at R key b ≡ None
-  found_over [] h = refl
-  found_over (p ∷ b) h = rw (All-head Over p b h) (found_over b (All-tail Over p b h))
+  pub found_nowhere : (b : List (K × V)) → All Other b → found_at R key b ≡ None
+  found_nowhere [] h = refl
+  found_nowhere (p ∷ b) h = rw (All-head Other p b h) (found_nowhere b (All-tail Other p b h))
 
-  found_before : (m b : List (K × V)) → AllOver R key b → found_at R key (m ++ b) ≡ found_at R key m
-  found_before [] b h = found_over b h
-  found_before (p ∷ m) b h = ap (λ o. if is_eq (R p.0 key) then Some p.1 else o) (found_before m b h)
+  pub found_first : (m b : List (K × V)) → All Other b → found_at R key (m ++ b) ≡ found_at R key m
+  found_first [] b h = found_nowhere b h
+  found_first (p ∷ m) b h = ap (λ o. if is_eq (R p.0 key) then Some p.1 else o) (found_first m b h)
 
   pub found_framed : (a m b : List (K × V)) → IsCut R key a b → found_at R key (a ++ (m ++ b)) ≡ found_at R key m
-  found_framed a m b c = found_under a (m ++ b) c.under ∙ found_before m b c.over
+  found_framed a m b c =
+      found_past a (m ++ b) (All-weaker Under Other (λ p e. ap is_eq e) a c.under) ∙ found_first m b (All-weaker Over Other (λ p e. ap is_eq e) b c.over)
 
   -- a list of the one pair that has the key
   pub put_same : (value : V) (p : K × V) → R p.0 key ≡ Equal → put_in R key value (p ∷ []) ≡ (key, value) ∷ []
@@ -94,9 +96,6 @@ module _ {K V : Type 0} (R : K → K → Ordering) (key : K) where
   pub found_same : (p : K × V) → R p.0 key ≡ Equal → found_at R key (p ∷ []) ≡ Some p.1
   found_same p e = rw e refl
 
-  pub place_same : (p : K × V) → R p.0 key ≡ Equal → place_in R key (p ∷ []) ≡ 0
-  place_same p e = rw e refl
-
   -- lengths
   parted_step : (p : K × V) (l : List (K × V)) (o : Ordering) → R p.0 key ≡ o → length (below R key l) + length (above R key l) ≤ length l → length (below R key (p ∷ l)) + length (above R key (p ∷ l)) ≤ length (p ∷ l)
   parted_step p l Less e h = rw e (omega arith)
@@ -106,9 +105,6 @@ module _ {K V : Type 0} (R : K → K → Ordering) (key : K) where
   parted : (l : List (K × V)) → length (below R key l) + length (above R key l) ≤ length l
   parted [] = omega arith
   parted (p ∷ l) = parted_step p l (R p.0 key) refl (parted l)
-
-  pub place_length : (l : List (K × V)) → place_in R key l ≤ length l
-  place_length l = omega (arith, parted l)
 
   pub put_length : (value : V) (l : List (K × V)) → length (put_in R key value l) ≤ length l + 1
   put_length value l = omega (arith, length-append (below R key l) ((key, value) ∷ above R key l), parted l)
@@ -148,12 +144,12 @@ module _ {K V : Type 0} (R : K → K → Ordering) where
   rising_filter test (p ∷ l) h =
       cond_both (test p) (p ∷ filter test l) (filter test l) (IsRising R) (λ e. (All-filter test (λ q. R p.0 q.0 ≡ Less) l h.0, rising_filter test l h.1)) (λ e. rising_filter test l h.1)
 
-is_Greater : (o : Ordering) → is_gt o ≡ true → o ≡ Greater
+pub is_Greater : (o : Ordering) → is_gt o ≡ true → o ≡ Greater
 is_Greater Less e = absurd (true≢false (sym e))
 is_Greater Equal e = absurd (true≢false (sym e))
 is_Greater Greater e = refl
 
-is_Less : (o : Ordering) → is_lt o ≡ true → o ≡ Less
+pub is_Less : (o : Ordering) → is_lt o ≡ true → o ≡ Less
 is_Less Less e = refl
 is_Less Equal e = absurd (true≢false (sym e))
 is_Less Greater e = absurd (true≢false (sym e))
@@ -166,15 +162,15 @@ module _ {K : Type 0} (R : K → K → Ordering) (total : IsTotalOrder R) where
   turned_back x y e = total.antisymm y x ∙ ap ordering_reverse e
 
 module _ {K : Type 0} (R : K → K → Ordering) (total : IsTotalOrder R) (key : K) where
-  under_by : (p q : K) (o : Ordering) → R p key ≡ o → is_gt o ≡ false → R q p ≡ Less → R q key ≡ Less
+  pub under_by : (p q : K) (o : Ordering) → R p key ≡ o → is_gt o ≡ false → R q p ≡ Less → R q key ≡ Less
   under_by p q Less e g h = total.trans q p key h e
   under_by p q Equal e g h = sym (alike_right total p key q e) ∙ h
   under_by p q Greater e g h = absurd (true≢false g)
 
-  over_greater : (p q : K) → R p key ≡ Greater → R p q ≡ Less → R q key ≡ Greater
+  pub over_greater : (p q : K) → R p key ≡ Greater → R p q ≡ Less → R q key ≡ Greater
   over_greater p q e h = turned_back R total key q (total.trans key p q (turned R total p key e) h)
 
-  over_equal : (p q : K) → R p key ≡ Equal → R p q ≡ Less → R q key ≡ Greater
+  pub over_equal : (p q : K) → R p key ≡ Equal → R p q ≡ Less → R q key ≡ Greater
   over_equal p q e h = turned_back R total key q (sym (total.congr p key q e) ∙ h)
 
 module _ {K V : Type 0} (R : K → K → Ordering) (total : IsTotalOrder R) (key : K) where
@@ -202,7 +198,7 @@ module _ {K V : Type 0} (R : K → K → Ordering) (total : IsTotalOrder R) (key
   part_under a (p ∷ m) b rising some e = cut_before a p (m ++ b) rising e
 
   -- what a map becomes still rises
-  below_less : (l : List (K × V)) → All (λ p. R p.0 key ≡ Less) (below R key l)
+  pub below_less : (l : List (K × V)) → All (λ p. R p.0 key ≡ Less) (below R key l)
   below_less l =
       All-weaker (λ p. is_lt (R p.0 key) ≡ true) (λ p. R p.0 key ≡ Less) (λ p e. is_Less (R p.0 key) e) (below R key l) (filter_passes (λ p. is_lt (R p.0 key)) l)
 
