@@ -5,6 +5,10 @@
 #![tactic(auto)]
 
 #[cfg(test)]
+mod borders;
+#[cfg(test)]
+mod copies;
+#[cfg(test)]
 mod counting;
 #[cfg(test)]
 mod forks;

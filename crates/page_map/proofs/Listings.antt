@@ -1,6 +1,6 @@
 -- What a walk over chunks from a place on has found, and what it has still to find.
 use Rattle.std.proofs.Common.{◌≡◌, ℕ, zero, suc, ◌+◌, ◌-◌, ◌<◌, ◌≤◌, List, [], ◌∷◌, ◌++◌, length, take, drop, get_or, refl, ap, sym, ◌∙◌, subst, arith, append_assoc, length-drop}
-use Rattle.std.specs.List.{All, flat_map, slice_range}
+use Rattle.std.specs.List.{All, flat_map}
 use Rattle.std.proofs.lemmas.List.{append-nil, take_all, drop_all, drop_at, drop-drop, drop-append-le}
 use Rattle.std.proofs.lemmas.List.Elements.{All-get_or}
 use Rattle.page_map.specs.inner.Cuts.{IsListing}
@@ -25,17 +25,6 @@ module _ {X : Type 0} where
 
   drop_append : (a b : List X) (n : ℕ) → drop (length a + n) (a ++ b) ≡ drop n b
   drop_append a b n = sym (drop-drop n (length a) (a ++ b)) ∙ ap (drop n) (drop_at a b (length a) refl)
-
-  -- nothing stands between two places where the last one isn't behind the first
-  pub nothing_back : (l : List X) (first last : ℕ) → last ≤ first → slice_range l first last ≡ []
-  nothing_back l first last h =
-      let none : last - first ≡ 0 = omega arith in
-      ap (λ n. take n (drop first l)) none
-
-  -- or where the first one isn't before the end
-  pub nothing_behind : (l : List X) (first last : ℕ) → length l ≤ first → slice_range l first last ≡ []
-  nothing_behind l first last h =
-      ap (λ m. take (last - first) m) (drop_all first l h) ∙ take_all (last - first) [] (omega arith)
 
 module _ {X P : Type 0} (e : X → List P) (cs : List X) where
   pub listing_first : (first rest place count : ℕ) (found : List P) → ((d : X) → rest < length (e (get_or cs first d))) → length (flat_map e (take first cs)) + rest ≡ place → IsListing e cs found (found ++ take count (drop place (flat_map e cs))) first rest count

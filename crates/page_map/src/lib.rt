@@ -11,8 +11,9 @@
 //! The pairs stand in pages of at most 64, under shelves of at most 128 chunks, three deep. A fork takes one
 //! step. A change under a fork copies one page, and of each shelf above it the pointers to its chunks. What no
 //! fork shares is changed in place, but that `set` halves a full page or shelf on its way by copying it, also
-//! where it only replaces a value. That nothing else is copied is in no clause: a test shows it of maps of one
-//! page. Maps and forks may go to other threads.
+//! where it only replaces a value. That nothing else is copied is in no clause: tests show it of maps of one page,
+//! and that a change under a fork of a larger map copies no more values than a page holds. Maps and forks may go to
+//! other threads.
 #![tactic(auto)]
 
 mod border;
