@@ -60,6 +60,15 @@ module _ {X : Type 0} (cs : List X) (i : ℕ) (first last : X) where
   drop_last within =
       ap (drop (i + 1 + 1)) behind_last ∙ drop_at (take i cs ++ (first ∷ (last ∷ []))) (drop (i + 1) cs) (i + 1 + 1) (two_more within)
 
+  -- what holds of a half holds where it stands
+  pub first_at : (P : X → Type 0) (now : List X) → i < length cs → now ≡ halved → P first → (d : X) → P (get_or now i d)
+  first_at P now within e h d =
+      subst P (sym (ap (λ l. get_or l i d) e ∙ get_or_at (take i cs) first (last ∷ drop (i + 1) cs) d i (front_length within))) h
+
+  pub last_at : (P : X → Type 0) (now : List X) → i < length cs → now ≡ halved → P last → (d : X) → P (get_or now (i + 1) d)
+  last_at P now within e h d =
+      subst P (sym (ap (λ l. get_or l (i + 1) d) (e ∙ behind_first) ∙ get_or_at (take i cs ++ (first ∷ [])) last (drop (i + 1) cs) d (i + 1) (one_more within))) h
+
 module _ {X P : Type 0} (e : X → List P) (cs : List X) (i : ℕ) (x first last : X) where
   pub halved_pairs : i < length cs → x ≡ get_or cs i x → e x ≡ e first ++ e last → flat_map e (halved cs i first last) ≡ flat_map e cs
   halved_pairs within read same =

@@ -23,6 +23,7 @@ mod finding;
 pub mod laws;
 pub mod limits;
 mod listing;
+mod looking;
 mod making_room;
 mod map;
 mod page;

@@ -5,8 +5,9 @@ ghost use Rattle.std.specs.List.{slice_get};
 ghost use Rattle.page_map.specs.Borders.{IsBorder, border_in};
 ghost use Rattle.page_map.specs.Pairs.{IsRising, found_at, put_in, without, place_in};
 
-use crate::border::{Below, Border};
+use crate::border::Border;
 use crate::chunk::Chunk;
+use crate::looking::{at_root, between_root, border_root, get_root, place_root};
 use crate::page::Page;
 use crate::root::{set_root, take_root};
 use crate::shelf::Shelf;
@@ -15,6 +16,9 @@ use std::alloc::Global;
 use std::marker::Model;
 use std::sync::Arc;
 
+/// Three shelves over pages. It stands here alone, since each function at so deep a type is dear to check.
+type Top<K, V> = Shelf<Shelf<Shelf<Page<K, V>>>>;
+
 /// An ordered map whose forks don't change with it. Contracts see the list of its pairs, by rising keys.
 ///
 /// A fork shares everything with its source until one of them changes. A search takes as many comparisons as
@@ -22,7 +26,7 @@ use std::sync::Arc;
 #[derive(Drop)]
 pub struct PageMap<K: Ord, V> {
     alloc: Global,
-    root: Option<Arc<Shelf<Shelf<Shelf<Page<K, V>>>>>>,
+    root: Option<Arc<Top<K, V>>>,
 }
 
 impl<K: Ord, V> Model for PageMap<K, V> {
@@ -34,11 +38,11 @@ impl<K: Ord, V> Model for PageMap<K, V> {
     ghost coded = { coded_list (coded× K.code V.code) };
 
     ghost use Rattle.page_map.specs.Pairs.{IsRising};
-    ghost use Rattle.page_map.specs.inner.Chunks.{root_entries, IsRoot};
+    ghost use Rattle.page_map.specs.inner.Chunks.{root_entries, top_entries, IsRoot, IsTop};
 
-    ghost view = { λ m. root_entries m.root };
+    ghost view = { λ m. root_entries top_entries m.root };
 
-    ghost invariant = { λ m. IsRoot m.root × IsRising K.cmp (root_entries m.root) };
+    ghost invariant = { λ m. IsRoot top_entries IsTop m.root × IsRising K.cmp (root_entries top_entries m.root) };
 }
 
 impl<K: Ord + Duplicate + Drop, V: Duplicate + Drop> PageMap<K, V> {
@@ -70,10 +74,7 @@ impl<K: Ord + Duplicate + Drop, V: Duplicate + Drop> PageMap<K, V> {
     pub fn get(&self, key: &K) -> Option<&V>
         ensures { option_copied result ≡ found_at K.cmp key.now self.now }
     {
-        match &self.root {
-            Some(root) => root.get(key),
-            None => None,
-        }
+        get_root::<K, V, Top<K, V>>(&self.root, key)
     }
 
     /// How many keys are below the key. Takes no memory, one search, and a look at the count of each chunk that
@@ -82,10 +83,7 @@ impl<K: Ord + Duplicate + Drop, V: Duplicate + Drop> PageMap<K, V> {
     pub fn place_of(&self, key: &K) -> u64
         ensures { result ≡ place_in K.cmp key.now self.now }
     {
-        match &self.root {
-            Some(root) => root.place_where(&Below { key }),
-            None => 0,
-        }
+        place_root::<K, V, Top<K, V>>(&self.root, key)
     }
 
     /// How many keys stand before the border, which is the place of the first pair from it on. Costs what
@@ -96,10 +94,7 @@ impl<K: Ord + Duplicate + Drop, V: Duplicate + Drop> PageMap<K, V> {
         requires { IsBorder (B.before border.now) self.now }
         ensures { result ≡ border_in (B.before border.now) self.now }
     {
-        match &self.root {
-            Some(root) => root.place_where(border),
-            None => 0,
-        }
+        border_root::<K, V, Top<K, V>, B>(&self.root, border)
     }
 
     /// The pair at the place, counted from 0. Takes no memory, and as many looks at counts as [`place_of`].
@@ -108,15 +103,7 @@ impl<K: Ord + Duplicate + Drop, V: Duplicate + Drop> PageMap<K, V> {
     pub fn at(&self, place: u64) -> Option<(&K, &V)>
         ensures { option_map (λ pair. (pair.0.now, pair.1.now)) result ≡ slice_get self.now place }
     {
-        match &self.root {
-            Some(root) => {
-                if place < root.count() {
-                    return Some(root.at(place));
-                }
-                None
-            }
-            None => None,
-        }
+        at_root::<K, V, Top<K, V>>(&self.root, place)
     }
 
     /// The pairs at the places from the first on and before the last, in their order, and none behind the end of
@@ -127,18 +114,7 @@ impl<K: Ord + Duplicate + Drop, V: Duplicate + Drop> PageMap<K, V> {
     pub fn between(&self, first: u64, last: u64) -> Result<Vec<(&K, &V)>, NoMemory>
         ensures { IfOk result (λ found. map (λ pair. (pair.0.now, pair.1.now)) found.items ≡ slice_range self.now first last) }
     {
-        let mut found = Vec::new(self.alloc);
-        let Some(root) = &self.root else {
-            return Ok(found);
-        };
-        if last <= first {
-            return Ok(found);
-        }
-        if root.count() <= first {
-            return Ok(found);
-        }
-        root.list(first, last - first, &mut found)?;
-        Ok(found)
+        between_root::<K, V, Top<K, V>>(&self.root, self.alloc, first, last)
     }
 
     /// Puts the value at the key, and gives the one that was there. An error leaves the map as it was.
@@ -151,7 +127,7 @@ impl<K: Ord + Duplicate + Drop, V: Duplicate + Drop> PageMap<K, V> {
         ensures new { OnOk result (self.new ≡ put_in K.cmp key value self.old) }
         ensures err { OnErr result (self.new ≡ self.old) }
     {
-        set_root(&mut self.root, self.alloc, key, value)
+        set_root::<K, V, Top<K, V>>(&mut self.root, self.alloc, key, value)
     }
 
     /// Takes the pair of the key out, and gives its value. An error leaves the map as it was.
@@ -164,7 +140,7 @@ impl<K: Ord + Duplicate + Drop, V: Duplicate + Drop> PageMap<K, V> {
         ensures new { OnOk result (self.new ≡ without K.cmp key.now self.old) }
         ensures err { OnErr result (self.new ≡ self.old) }
     {
-        take_root(&mut self.root, self.alloc, key)
+        take_root::<K, V, Top<K, V>>(&mut self.root, self.alloc, key)
     }
 
     /// A map of the same pairs, which doesn't change when this one does. Takes one step: one pointer is shared.

@@ -46,16 +46,16 @@ abbrev pub IsTop : {K V : Type 0} → Top K V → Type 0
 IsTop = IsShelf (shelf_entries (shelf_entries page_entries)) (IsShelf (shelf_entries page_entries) (IsShelf page_entries IsPage))
 
 -- a map without a root is empty
-abbrev pub root_entries : {K V : Type 0} → Option (Arc (Top K V) Global) → List (K × V)
-root_entries None = []
-root_entries (Some root) = top_entries (arc_value root)
+abbrev pub root_entries : {C P : Type 0} → (C → List P) → Option (Arc C Global) → List P
+root_entries entries None = []
+root_entries entries (Some root) = entries (arc_value root)
 
 -- a root is right, and may be empty
-abbrev pub IsLoose : {K V : Type 0} → Option (Arc (Top K V) Global) → Type 0
-IsLoose None = Unit {0}
-IsLoose (Some root) = IsTop (arc_value root)
+abbrev pub IsLoose : {C : Type 0} → (C → Type 0) → Option (Arc C Global) → Type 0
+IsLoose sound None = Unit {0}
+IsLoose sound (Some root) = sound (arc_value root)
 
 -- a root is right, and not empty
-abbrev pub IsRoot : {K V : Type 0} → Option (Arc (Top K V) Global) → Type 0
-IsRoot None = Unit {0}
-IsRoot (Some root) = IsTop (arc_value root) × (0 < length (top_entries (arc_value root)))
+abbrev pub IsRoot : {C P : Type 0} → (C → List P) → (C → Type 0) → Option (Arc C Global) → Type 0
+IsRoot entries sound None = Unit {0}
+IsRoot entries sound (Some root) = sound (arc_value root) × (0 < length (entries (arc_value root)))

@@ -1,8 +1,9 @@
 use Rattle.std.proofs.Common.{◌≡◌, ◌+◌, ap, sym, ◌∙◌, subst}
 use Rattle.std.specs.List.{flat_map}
+use Rattle.std.specs.Arc.{arc_value}
 use Rattle.page_map.specs.inner.Cuts.{IsInChunk}
 use Rattle.page_map.specs.inner.Chunks.{shared_entries}
-use Rattle.page_map.proofs.Rooms.{halved_pairs, in_first, in_last}
+use Rattle.page_map.proofs.Rooms.{halved_pairs, in_first, in_last, first_at, last_at}
 use Rattle.page_map.proofs.Shelves.{shelf_halved}
 use Rattle.page_map.proofs.making_room.make_room.Goals as goal
 
@@ -33,3 +34,11 @@ pub returns-clause-place : goal.returns-clause-place
 returns-clause-place g c =
     subst (λ l. IsInChunk g.K.Ord.cmp (shared_entries g.C.Chunk.entries) c.args.key.now l (c.place_for-place.result + 1)) (sym c.in_ok-put_halves.ensures.ok)
     (in_last g.K.Ord.cmp g.met.K.Ord.total (shared_entries g.C.Chunk.entries) c.args.key.now c.args.shelf.now.chunks.items c.requires.rising c.place_for-place.result c.index-2.result.now c.in_ok-first.first c.in_ok-first.last c.place_for-place.ensures c.index-2.ensures c.in_ok-first.ensures.pairs c.in_ok-first.ensures.last.some (sym c.begins_above-above.ensures ∙ c.if-above.false))
+
+pub returns-then-above-clause-room : goal.returns-then-above-clause-room
+returns-then-above-clause-room g c =
+    first_at c.args.shelf.now.chunks.items c.place_for-place.result c.in_ok-first.first c.in_ok-first.last (λ x. g.C.Chunk.room (arc_value x)) c.put_halves.new.shelf.chunks.items c.place_for-place.ensures.within c.in_ok-put_halves.ensures.ok c.in_ok-first.ensures.room.0
+
+pub returns-clause-room : goal.returns-clause-room
+returns-clause-room g c =
+    last_at c.args.shelf.now.chunks.items c.place_for-place.result c.in_ok-first.first c.in_ok-first.last (λ x. g.C.Chunk.room (arc_value x)) c.put_halves.new.shelf.chunks.items c.place_for-place.ensures.within c.in_ok-put_halves.ensures.ok c.in_ok-first.ensures.room.1
