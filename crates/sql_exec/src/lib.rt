@@ -1,18 +1,19 @@
 //! What a query answers and what a statement that writes does, over any source of rows.
 //!
 //! `specs/Answers.antt` says what a query answers over rows, and `specs/Effects.antt` what a statement that
-//! writes does to them: plain programs over lists, in which there are no plans. `select_by` answers the former
-//! by a plan, or its first fault, and is handed no more rows than the plan reaches. It takes queries of one
-//! table without groups, order and limit. What writes is defined, and its bodies are to come.
+//! writes does to them: plain programs over lists, in which there are no plans. `select` answers the former by
+//! the plan that is chosen for the query, and `select_by` by any plan that leaves out only what the conditions
+//! drop: its lines or its first fault. Neither is handed more rows than the plan reaches. They take queries of
+//! one table without groups, order and limit. What writes is defined, and its bodies are to come.
 #![tactic(auto)]
 
 mod effect;
 mod keeping;
 mod lines;
 mod lock;
+mod queries;
 mod reaching;
-mod select;
 
 pub use effect::Effect;
 pub use lock::{LineList, Locked};
-pub use select::select_by;
+pub use queries::{select, select_by};

@@ -4,19 +4,23 @@ ghost use Rattle.geo_base.specs.Results.{Gives};
 ghost use Rattle.geo_base.specs.declared.limits.TheConstants.{MAX_LINE_CELLS};
 ghost use Rattle.row_source.specs.Bounds.{steps_of};
 ghost use Rattle.row_source.specs.Handing.{IsPlanFor, LeavesOut};
+ghost use Rattle.row_source.specs.Sources.{AreRowsOf};
 ghost use Rattle.row_source.specs.declared.fault.ExecFault.TheVariants as fault;
 ghost use Rattle.sql_bind.specs.Sound.{IsSoundSelect};
 ghost use Rattle.sql_exec.specs.Answers.{answer_of};
 ghost use Rattle.sql_exec.specs.inner.Plain.{plain_answer};
 ghost use Rattle.sql_expr.specs.Conditions.{kept};
+ghost use Rattle.sql_plan.specs.Plans as plans;
 
 use crate::keeping::kept_rows;
 use crate::lines::{lines_over, unless_too_long};
 use crate::lock::LineList;
 use crate::reaching::reached_rows;
 use geo_base::RowImage;
+use geo_schema::Schema;
 use row_source::{ExecFault, Plan, RowSource, Steps};
 use sql_bind::BoundSelect;
+use sql_plan::{plan_of, tests_drop_what_plans_leave_out};
 use std::alloc::Global;
 use std::sync::ledger::Ledger;
 
@@ -61,4 +65,29 @@ pub fn select_by<R: RowSource, L: Ledger>(
     let table = query.tables.items()[0];
     let rows = reached_rows(alloc, source, table, plan.first, steps)?;
     plain_answer(alloc, query, rows.as_slice())
+}
+
+/// What a query of one table without groups, order and limit answers: its lines in the order of keys, or its first
+/// fault. It is handed no more rows than the plan that is chosen for it reaches. The cost is that of the choice, which
+/// takes some steps for each test and each column of a key or an index, and then that of [`select_by`].
+pub fn select<R: RowSource, L: Ledger>(
+    alloc: Global,
+    query: &BoundSelect,
+    source: &R,
+    schema: &Schema,
+    steps: &mut Steps<L>,
+) -> Result<LineList, ExecFault>
+    requires query { IsSoundSelect schema.now query.now }
+    requires one { length query.now.tables ≡ 1 }
+    requires ungrouped { query.now.grouped ≡ false }
+    requires unordered { query.now.order ≡ [] }
+    requires uncut { query.now.limit ≡ None }
+    requires schema { R.tables source.now ≡ schema.now }
+    requires rows { AreRowsOf schema.now (R.rows source.now) }
+    ensures answer { Gives fault.NoMemory (λ l. l) result (answer_of query.now (R.rows source.now)) }
+    ensures steps { steps.new ≤ steps.old + steps_of schema.now query.now.tables (plans.plan_of schema.now query.now.tables query.now.tests) (R.rows source.now) }
+{
+    tests_drop_what_plans_leave_out();
+    let plan = plan_of(alloc, schema, query.tables.items(), query.tests.items())?;
+    select_by(alloc, query, source, plan, steps)
 }

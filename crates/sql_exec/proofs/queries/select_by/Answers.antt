@@ -7,7 +7,7 @@ use Rattle.row_source.specs.Sources.{images}
 use Rattle.row_source.specs.declared.fault.ExecFault.{ExecFault}
 use Rattle.row_source.specs.declared.fault.ExecFault.TheVariants as fault
 use Rattle.sql_exec.proofs.Planned.{planned, the_table}
-use Rattle.sql_exec.proofs.select.select_by.Goals as goal
+use Rattle.sql_exec.proofs.queries.select_by.Goals as goal
 use Rattle.sql_exec.specs.Answers.{answer_of}
 use Rattle.sql_exec.specs.inner.Plain.{plain_answer}
 
