@@ -100,7 +100,10 @@ fn pairs_between_places(rt: HostRuntime) -> Result<(), Fail> {
     ];
     for (size, first, last, count) in table {
         let map = thirds(rt.alloc(), size)?;
-        assert!(rt; stands_between(&map, first, last, count, 1)?, "{size} {first}");
+        assert!(rt;
+            stands_between(&map, first, last, count, 1)?,
+            "{size} {first}"
+        );
     }
     Ok(())
 }
