@@ -1,0 +1,87 @@
+//! Queries and what is wanted of them, as lines of a text.
+ghost use Rattle.std.specs.Prelude.{◌≡◌, ◌<◌};
+ghost use Rattle.row_source.specs.Sources.{AreRowsOf};
+
+use crate::asking::answer;
+use crate::counted::Counted;
+use crate::rows::rows_of;
+use crate::tables::schema_of;
+use geo_schema::Schema;
+use row_source::{ListSource, Steps};
+use std::alloc::Global;
+use std::cell::Cell;
+use std::marker::Brand;
+use std::sync::ledger::{Blank, Ledger};
+use std::test::Fail;
+
+/// Accounts with an index of their owners; customers with names as keys; events with a key of two columns, which aren't
+/// in their order, and an index of their kinds; and a table without rows.
+const TABLES: &str = "\
+acc|id i,owner i,amount i|0|1
+cust|name t,good b|0|
+event|region i,at i,kind i|10|2
+void|id i,value i|0|1";
+
+const ROWS: &str = "\
+0: 1 7 10
+0: 2 8 20
+0: 3 - 30
+0: 5 7 -
+0: 8 9 0
+1: 'ann yes
+1: 'bob -
+1: 'eve no
+2: 2 1 30
+2: 5 1 -
+2: 0 2 10
+2: 9 2 20
+2: 1 3 10";
+
+/// The line and what its query is answered, if that isn't what the line says.
+fn wrong<L: Ledger>(
+    alloc: Global,
+    schema: &Schema,
+    source: &Counted,
+    line: &str,
+    steps: &mut Steps<L>,
+) -> Result<Option<String>, Fail>
+    requires schema { source.now.list.tables ≡ schema.now }
+    requires rows { AreRowsOf schema.now source.now.list.rows }
+{
+    let (text, want) = line.split_once(" => ").ok_or("a line without an answer")?;
+    let found = answer(alloc, schema, source, text, steps)?;
+    if found.as_str() == want {
+        return Ok(None);
+    }
+    Ok(Some(format!(in alloc; "{line}, but found {found}")?))
+}
+
+fn first_wrong_on<L: Ledger>(
+    alloc: Global,
+    lines: &str,
+    blank: Blank,
+) -> Result<Option<String>, Fail>
+    requires name { blank.name ≡ L.name }
+    requires parts { blank.parts ≡ L.parts }
+    requires some { 0 < L.parts }
+{
+    let schema = schema_of(alloc, TABLES)?;
+    let list = ListSource::new(&schema, rows_of(alloc, &schema, ROWS)?);
+    let source = Counted {
+        list,
+        count: Cell::new(0),
+    };
+    let mut steps: Steps<L> = Steps::new(blank);
+    for line in lines.lines() {
+        if let Some(wrong) = wrong(alloc, &schema, &source, line, &mut steps)? {
+            return Ok(Some(wrong));
+        }
+    }
+    Ok(None)
+}
+
+/// The first line whose query isn't answered as it says. Each line has a query, an arrow, how many rows it is handed,
+/// and its lines or its fault.
+pub fn first_wrong(alloc: Global, lines: &str) -> Result<Option<String>, Fail> {
+    first_wrong_on::<Brand>(alloc, lines, Blank::new(1))
+}

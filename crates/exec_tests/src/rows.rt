@@ -1,0 +1,64 @@
+//! Rows as texts, `TABLE: CELLS` a line, in rising order.
+ghost use Rattle.std.specs.Prelude.{IfOk, IsTrue};
+ghost use Rattle.std.specs.List.{All};
+ghost use Rattle.row_source.specs.Lists.{entry_of, table_of};
+ghost use Rattle.row_source.specs.Sources.{AreRowsOf, Fits};
+ghost use Rattle.write_set.specs.Sets.{Rises};
+
+use crate::cells::cells_of;
+use geo_base::{RowId, RowImage};
+use geo_schema::Schema;
+use row_source::RowImageAt;
+use std::alloc::Global;
+use std::test::Fail;
+
+/// The row of the line, whose name is made of its cells.
+fn row_of(alloc: Global, schema: &Schema, line: &str) -> Result<RowImageAt, Fail>
+    ensures { IfOk result (λ at. Fits schema.now (entry_of at)) }
+{
+    let (table, cells) = line.split_once(": ").ok_or("a row without cells")?;
+    let table = table.parse()?;
+    let image = RowImage::new(cells_of(alloc, cells)?)?;
+    if !schema.has_table(table) || schema.check_row(table, image.cells()).is_err() {
+        return Err("a row of no table".into());
+    }
+    let key = schema.key_of(alloc, table, &image)?;
+    let row = RowId { table, key };
+    Ok(RowImageAt { row, image })
+}
+
+/// Whether each row is less than the next one.
+fn are_rising(rows: &[RowImageAt]) -> bool
+    ensures { IsTrue result → Rises (table_of rows.now) }
+{
+    match rows {
+        [first, rest @ ..] => match rest {
+            [second, ..] => first.row < second.row && are_rising(rest),
+            [] => true,
+        },
+        [] => true,
+    }
+}
+
+#[tactic(auto, using(crate::proofs::Fitting::one_more))]
+fn fitting_rows(alloc: Global, schema: &Schema, text: &str) -> Result<Vec<RowImageAt>, Fail>
+    ensures { IfOk result (λ rows. All (Fits schema.now) (table_of rows.items)) }
+{
+    let mut rows = Vec::new(alloc);
+    for line in text.lines() {
+        rows.push(row_of(alloc, schema, line)?)?;
+    }
+    Ok(rows)
+}
+
+/// The rows of a text.
+pub fn rows_of(alloc: Global, schema: &Schema, text: &str) -> Result<Vec<RowImageAt>, Fail>
+    ensures { IfOk result (λ rows. AreRowsOf schema.now (table_of rows.items)) }
+{
+    let rows = fitting_rows(alloc, schema, text)?;
+    if are_rising(rows.as_slice()) {
+        Ok(rows)
+    } else {
+        Err("rows that don't rise".into())
+    }
+}

@@ -1,0 +1,80 @@
+//! Tables as texts: `NAME|COLUMNS|KEY|INDEXES`, one a line.
+//!
+//! Columns have commas between them, and each is its name and, behind a space, `i` for numbers, `b` for truth values or
+//! `t` for texts of at most 20 bytes. A place is one digit. An index is its places, which are its name too, and indexes
+//! have commas between them.
+use geo_base::Txt;
+use geo_schema::{ColumnDef, ColumnList, IndexDef, IndexList, Kind, PlaceList, Schema, TableDef};
+use std::alloc::Global;
+use std::test::Fail;
+
+fn kind_of(letter: &str) -> Kind {
+    match letter {
+        "i" => Kind::Int,
+        "b" => Kind::Truth,
+        _ => Kind::Text { max: 20 },
+    }
+}
+
+fn column_of(alloc: Global, text: &str) -> Result<ColumnDef, Fail> {
+    let (name, kind) = text.split_once(' ').ok_or("a column without a kind")?;
+    Ok(ColumnDef {
+        name: Txt::new(alloc, name)?,
+        kind: kind_of(kind),
+        not_null: false,
+    })
+}
+
+fn columns_of(alloc: Global, texts: &str) -> Result<ColumnList, Fail> {
+    let mut columns = Vec::new(alloc);
+    for text in texts.split(',') {
+        columns.push(column_of(alloc, text)?)?;
+    }
+    Ok(ColumnList::new(columns))
+}
+
+fn places_of(alloc: Global, digits: &str) -> Result<PlaceList, Fail> {
+    let mut places = Vec::new(alloc);
+    for digit in digits.as_bytes() {
+        places.push(digit.wrapping_sub(b'0'))?;
+    }
+    Ok(PlaceList::new(places))
+}
+
+fn index_of(alloc: Global, digits: &str) -> Result<IndexDef, Fail> {
+    Ok(IndexDef {
+        name: Txt::new(alloc, digits)?,
+        columns: places_of(alloc, digits)?,
+    })
+}
+
+fn indexes_of(alloc: Global, text: &str) -> Result<IndexList, Fail> {
+    let mut indexes = Vec::new(alloc);
+    if !text.is_empty() {
+        for digits in text.split(',') {
+            indexes.push(index_of(alloc, digits)?)?;
+        }
+    }
+    Ok(IndexList::new(indexes))
+}
+
+fn table_of(alloc: Global, text: &str) -> Result<TableDef, Fail> {
+    let (name, rest) = text.split_once('|').ok_or("a table without columns")?;
+    let (columns, rest) = rest.split_once('|').ok_or("a table without a key")?;
+    let (key, indexes) = rest.split_once('|').ok_or("a table without indexes")?;
+    Ok(TableDef {
+        name: Txt::new(alloc, name)?,
+        columns: columns_of(alloc, columns)?,
+        key: places_of(alloc, key)?,
+        indexes: indexes_of(alloc, indexes)?,
+    })
+}
+
+/// The schema of the tables of a text.
+pub fn schema_of(alloc: Global, text: &str) -> Result<Schema, Fail> {
+    let mut tables = Vec::new(alloc);
+    for line in text.lines() {
+        tables.push(table_of(alloc, line)?)?;
+    }
+    Ok(Schema::new(alloc, tables)?)
+}
