@@ -40,7 +40,6 @@ fn are_rising(rows: &[RowImageAt]) -> bool
     }
 }
 
-#[tactic(auto, using(crate::proofs::Fitting::one_more))]
 fn fitting_rows(alloc: Global, schema: &Schema, text: &str) -> Result<Vec<RowImageAt>, Fail>
     ensures { IfOk result (λ rows. All (Fits schema.now) (table_of rows.items)) }
 {
