@@ -58,7 +58,7 @@ fn wrong<L: Ledger>(
 
 fn first_wrong_on<L: Ledger>(
     alloc: Global,
-    lines: &str,
+    lines: String,
     blank: Blank,
 ) -> Result<Option<String>, Fail>
     requires name { blank.name ≡ L.name }
@@ -83,5 +83,5 @@ fn first_wrong_on<L: Ledger>(
 /// The first line whose query isn't answered as it says. Each line has a query, an arrow, how many rows it is handed,
 /// and its lines or its fault.
 pub fn first_wrong(alloc: Global, lines: &str) -> Result<Option<String>, Fail> {
-    first_wrong_on::<Brand>(alloc, lines, Blank::new(1))
+    first_wrong_on::<Brand>(alloc, String::from_str(alloc, lines)?, Blank::new(1))
 }
