@@ -1,10 +1,10 @@
 -- What a change of one chunk says of the list of all pairs.
-use Rattle.std.proofs.Common.{◌≡◌, ℕ, suc, ◌+◌, ◌-◌, ◌<◌, ◌≤◌, List, [], ◌∷◌, ◌++◌, length, take, drop, set, get_or, Some, None, refl, ap, sym, ◌∙◌, subst, arith, add-one, length-append}
+use Rattle.std.proofs.Common.{◌≡◌, ℕ, ◌+◌, ◌<◌, List, [], ◌++◌, length, take, drop, set, get_or, ap, sym, ◌∙◌, subst, arith, length-append}
 use Rattle.std.specs.List.{flat_map, remove}
 use Rattle.std.specs.declared.cmp.Ordering.{Ordering}
 use Rattle.std.proofs.lemmas.List.{take-set, drop-set-lt}
 use Rattle.page_map.specs.Pairs.{IsRising, found_at, put_in, without}
-use Rattle.page_map.specs.inner.Cuts.{IsCut, IsInChunk}
+use Rattle.page_map.specs.inner.Cuts.{IsInChunk}
 use Rattle.page_map.specs.laws.Orders.{put_framed, without_framed, found_framed, rising_mid}
 use Rattle.page_map.proofs.Flats.{flat_read, flat_set, flat_remove}
 

@@ -1,14 +1,12 @@
 -- Chunks in a row, and the list of all their pairs.
-use Rattle.std.proofs.Common.{◌≡◌, ℕ, suc, ◌+◌, ◌-◌, ◌<◌, ◌≤◌, ⊎_elim, Some, subst, List, [], ◌∷◌, ◌++◌, length, take, drop, set, get_or, refl, ap, sym, ◌∙◌, arith, map, length-append, add-one, append_assoc}
+use Rattle.std.proofs.Common.{◌≡◌, ℕ, suc, ◌+◌, ◌-◌, ◌<◌, ◌≤◌, ⊎_elim, Some, List, [], ◌∷◌, ◌++◌, length, take, drop, set, get_or, refl, ap, sym, ◌∙◌, arith, map, length-append, add-one, append_assoc}
 use Rattle.std.specs.List.{All, flat_map, remove, slice_get}
-use Rattle.std.specs.Ordering.{is_gt}
-use Rattle.std.specs.declared.cmp.Ordering.{Ordering}
-use Rattle.page_map.specs.inner.Cuts.{IsWalking, head_is_over}
-use Rattle.std.proofs.lemmas.List.{append-nil, drop_more, set_split, take_more, take-append-drop, take_all, get_or_read, get_or-append-add, get_or_append_left}
+use Rattle.page_map.specs.inner.Cuts.{IsWalking}
+use Rattle.std.proofs.lemmas.List.{append-nil, drop_more, set_split, take_more, take-append-drop, take_all, get_or-append-add, get_or_append_left}
 use Rattle.std.proofs.lemmas.Option.{slice_get-get_or, slice_get_within, get_or_from_slice_get}
 use Rattle.std.proofs.lemmas.Bool.{cases_lt}
 use Rattle.std.proofs.lemmas.List.Concat.{flat_map-append}
-use Rattle.std.proofs.lemmas.List.Elements.{All-nil, All-cons, All-head, All-tail, All-append, All-take, All-drop}
+use Rattle.std.proofs.lemmas.List.Elements.{All-append, All-take, All-drop}
 use Rattle.page_map.specs.laws.Lists.{pieces}
 
 module _ {X P : Type 0} (e : X → List P) where

@@ -1,11 +1,11 @@
 -- What a page's search says of the list of its pairs.
-use Rattle.std.proofs.Common.{◌≡◌, ℕ, suc, ◌+◌, ◌<◌, ◌≤◌, List, [], ◌∷◌, ◌++◌, length, take, drop, set, get_or, Some, None, refl, ap, sym, ◌∙◌, subst, arith, add-one}
+use Rattle.std.proofs.Common.{◌≡◌, ℕ, ◌+◌, ◌<◌, List, [], ◌∷◌, ◌++◌, length, take, drop, set, get_or, Some, None, ap, sym, ◌∙◌, subst, add-one}
 use Rattle.std.specs.List.{insert, remove}
 use Rattle.std.specs.declared.cmp.Ordering.{Ordering}
 use Rattle.std.specs.declared.cmp.Ordering.TheVariants.{Equal}
 use Rattle.std.proofs.lemmas.List.{take-append-drop, set_split}
 use Rattle.page_map.specs.Pairs.{found_at, put_in, without}
-use Rattle.page_map.specs.inner.Cuts.{IsCut, IsFoundAt, IsGapAt}
+use Rattle.page_map.specs.inner.Cuts.{IsFoundAt, IsGapAt}
 use Rattle.page_map.specs.laws.Lists.{pieces}
 use Rattle.page_map.specs.laws.Orders.{put_framed, without_framed, found_framed, put_same, without_same, found_same}
 

@@ -1,5 +1,5 @@
 -- A chunk that is halved: no pair changes, and the key belongs in one of the halves.
-use Rattle.std.proofs.Common.{◌≡◌, ℕ, suc, ◌+◌, ◌<◌, ◌≤◌, Bool, true, false, List, [], ◌∷◌, ◌++◌, length, take, drop, set, get_or, refl, ap, sym, ◌∙◌, subst, arith, append_assoc, length-append}
+use Rattle.std.proofs.Common.{◌≡◌, ℕ, ◌+◌, ◌<◌, true, false, List, [], ◌∷◌, ◌++◌, length, take, drop, set, get_or, ap, sym, ◌∙◌, subst, arith, append_assoc, length-append}
 use Rattle.std.specs.List.{All, flat_map, insert}
 use Rattle.std.specs.declared.cmp.Ordering.{Ordering}
 use Rattle.std.specs.Cmp.{IsTotalOrder}
@@ -7,7 +7,7 @@ use Rattle.std.proofs.lemmas.List.{append-nil, take_at, drop_at, take_more, set_
 use Rattle.std.proofs.lemmas.List.Concat.{flat_map-append}
 use Rattle.std.proofs.lemmas.List.Elements.{All-cons, All-append, All-take, All-drop}
 use Rattle.page_map.specs.Pairs.{IsRising}
-use Rattle.page_map.specs.inner.Cuts.{AllUnder, AllOver, IsCut, IsInChunk, head_is_over}
+use Rattle.page_map.specs.inner.Cuts.{AllUnder, AllOver, IsInChunk, head_is_over}
 use Rattle.page_map.specs.laws.Orders.{part_over, part_under}
 use Rattle.page_map.proofs.Flats.{flat_read, flat_halved}
 

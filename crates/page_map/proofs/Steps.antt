@@ -1,14 +1,14 @@
 -- The steps of the searches.
-use Rattle.std.proofs.Common.{◌≡◌, ℕ, ◌+◌, ◌-◌, ◌<◌, ◌≤◌, Bool, true, false, List, [], ◌∷◌, ◌++◌, length, take, drop, get_or, Some, refl, ap, sym, ◌∙◌, subst, arith}
-use Rattle.std.specs.List.{All, flat_map, slice_get}
+use Rattle.std.proofs.Common.{◌≡◌, ℕ, ◌+◌, ◌<◌, ◌≤◌, true, false, List, [], ◌∷◌, ◌++◌, length, take, drop, get_or, Some, ap, sym, ◌∙◌, subst, arith}
+use Rattle.std.specs.List.{flat_map, slice_get}
 use Rattle.std.specs.Ordering.{is_gt}
 use Rattle.std.specs.declared.cmp.Ordering.{Ordering}
 use Rattle.std.specs.declared.cmp.Ordering.TheVariants.{Less, Equal, Greater}
 use Rattle.std.specs.Cmp.{IsTotalOrder}
-use Rattle.std.proofs.lemmas.List.{drop_more, take_more, drop_all, get_or_read}
+use Rattle.std.proofs.lemmas.List.{drop_more, take_more, get_or_read}
 use Rattle.std.proofs.lemmas.List.Elements.{All-nil, All-cons, All-append}
-use Rattle.page_map.specs.Pairs.{IsRising, found_at, put_in, without}
-use Rattle.page_map.specs.inner.Cuts.{AllUnder, AllOver, IsCut, IsSearching, IsNarrowing, IsFoundAt, IsGapAt, IsInChunk, head_is_over}
+use Rattle.page_map.specs.Pairs.{IsRising}
+use Rattle.page_map.specs.inner.Cuts.{AllUnder, AllOver, IsSearching, IsNarrowing, IsFoundAt, head_is_over}
 use Rattle.page_map.specs.laws.Lists.{pieces}
 use Rattle.page_map.specs.laws.Orders.{cut_before, cut_from, cut_after, part_over, part_under}
 use Rattle.page_map.proofs.Flats.{flat_read, flat_from}

@@ -1,14 +1,14 @@
 -- Laws: keys and their places in a rising list.
-use Rattle.std.proofs.Common.{◌≡◌, ℕ, zero, suc, ◌<◌, false, List, [], ◌∷◌, length, get_or, Option, Some, None, refl, ap, sym, ◌∙◌, subst}
+use Rattle.std.proofs.Common.{◌≡◌, ℕ, zero, suc, false, List, [], ◌∷◌, length, Some, None, refl, ap, sym, ◌∙◌, subst}
 use Rattle.std.specs.List.{All, slice_get}
-use Rattle.std.specs.Ordering.{is_lt, is_eq}
+use Rattle.std.specs.Ordering.{is_eq}
 use Rattle.std.specs.declared.cmp.Ordering.{Ordering}
 use Rattle.std.specs.declared.cmp.Ordering.TheVariants.{Less, Equal, Greater}
 use Rattle.std.specs.Cmp.{IsTotalOrder}
 use Rattle.std.proofs.lemmas.Cmp.{alike_right}
 use Rattle.std.proofs.lemmas.Option.{slice_get_within, get_or_from_slice_get}
 use Rattle.std.proofs.lemmas.List.Elements.{All-get_or, All-weaker}
-use Rattle.page_map.specs.Pairs.{IsRising, below, found_at, place_in}
+use Rattle.page_map.specs.Pairs.{IsRising, found_at, place_in}
 use Rattle.page_map.specs.laws.Orders.{below_over, over_equal, over_greater, found_nowhere}
 
 -- what holds of each item holds of the one at a place

@@ -1,4 +1,4 @@
-use Rattle.std.proofs.Common.{◌≡◌, ◌<◌, ◌+◌, ◌-◌, ◌/◌, length, sym, ◌∙◌, subst, arith}
+use Rattle.std.proofs.Common.{◌≡◌, ◌+◌, ◌-◌, ◌/◌, sym, ◌∙◌, subst, arith}
 use Rattle.page_map.specs.inner.Cuts.{IsBorderedIn}
 use Rattle.page_map.specs.inner.Chunks.{shared_entries}
 use Rattle.page_map.proofs.Bordering.{bordered_in_up, bordered_in_down}

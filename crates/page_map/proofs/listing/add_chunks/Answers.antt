@@ -1,8 +1,8 @@
-use Rattle.std.proofs.Common.{◌≡◌, ◌<◌, ◌≤◌, ◌++◌, length, map, take, drop, ap, sym, ◌∙◌, subst, arith}
+use Rattle.std.proofs.Common.{◌<◌, ◌++◌, length, map, take, drop, ap, sym, ◌∙◌, subst, arith}
 use Rattle.std.specs.List.{All}
 use Rattle.std.specs.Arc.{arc_value}
 use Rattle.std.proofs.lemmas.List.Elements.{All-weaker}
-use Rattle.page_map.specs.inner.Chunks.{shared_entries, shelf_entries, IsChunk}
+use Rattle.page_map.specs.inner.Chunks.{shared_entries, IsChunk}
 use Rattle.page_map.proofs.Listings.{listing_first, listing_next, listing_done, listing_over}
 use Rattle.page_map.proofs.listing.add_chunks.Goals as goal
 

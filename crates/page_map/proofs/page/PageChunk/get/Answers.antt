@@ -1,5 +1,5 @@
-use Rattle.std.proofs.Common.{◌≡◌, Some, None, set, sym, ap, ◌∙◌}
-use Rattle.page_map.proofs.Pages.{page_found, page_none, page_set, page_insert, page_remove, page_kept}
+use Rattle.std.proofs.Common.{sym}
+use Rattle.page_map.proofs.Pages.{page_found, page_none}
 use Rattle.page_map.proofs.page.PageChunk.get.Goals as goal
 
 pub returns-in-Ok : goal.returns-in-Ok

@@ -1,5 +1,5 @@
-use Rattle.std.proofs.Common.{◌≡◌, Some, None, set, sym, ap, ◌∙◌}
-use Rattle.page_map.proofs.Pages.{page_found, page_none, page_set, page_insert, page_remove, page_kept}
+use Rattle.std.proofs.Common.{Some, set, sym, ap, ◌∙◌}
+use Rattle.page_map.proofs.Pages.{page_found, page_none, page_set, page_insert}
 use Rattle.page_map.proofs.page.PageChunk.set.Goals as goal
 
 pub returns-in-Ok-clause-old : goal.returns-in-Ok-clause-old

@@ -1,4 +1,4 @@
-use Rattle.std.proofs.Common.{Some, ap, sym, ◌∙◌}
+use Rattle.std.proofs.Common.{ap, sym, ◌∙◌}
 use Rattle.std.specs.List.{slice_get}
 use Rattle.page_map.specs.inner.Chunks.{shared_entries}
 use Rattle.page_map.proofs.Flats.{chunk_at}

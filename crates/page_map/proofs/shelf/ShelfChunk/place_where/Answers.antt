@@ -1,4 +1,4 @@
-use Rattle.std.proofs.Common.{◌≡◌, ◌<◌, ◌+◌, ap, sym, ◌∙◌, subst, refl, arith}
+use Rattle.std.proofs.Common.{◌+◌, ap, sym, ◌∙◌, subst, refl, arith}
 use Rattle.std.specs.Arc.{arc_value}
 use Rattle.page_map.specs.Borders.{IsBorder, border_in}
 use Rattle.page_map.specs.inner.Chunks.{shared_entries}
