@@ -5,5 +5,6 @@ pub mod Flats
 pub mod Listings
 pub mod Pages
 pub mod Rooms
+pub mod SharedChunks
 pub mod Shelves
 pub mod Steps
