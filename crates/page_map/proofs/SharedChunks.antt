@@ -10,10 +10,10 @@ use Rattle.page_map.specs.inner.Chunks.{IsChunk, shared_entries}
 -- what is right and not empty is a chunk of a shelf once it is shared
 pub chunk_shared : {C P : Type 0} (entries : C → List P) (sound : C → Type 0) {value : C} {shared : Arc C Global} →
     arc_value shared ≡ value → sound value → 0 < length (entries value) → IsChunk entries sound shared
-chunk_shared entries sound same whole some = record
-    { whole = subst sound (sym same) whole
-    ; some = subst (λ c. 0 < length (entries c)) (sym same) some
-    }
+chunk_shared entries sound same whole some = record {
+  whole = subst sound (sym same) whole;
+  some = subst (λ c. 0 < length (entries c)) (sym same) some;
+}
 
 -- two halves have the same pairs once they are shared
 pub halves_shared : {C P : Type 0} (entries : C → List P) (shared_first shared_last : Arc C Global) {first last : C} {whole : List P} →

@@ -3,10 +3,10 @@ ghost use Rattle.std.specs.Prelude.{◌≡◌, map, slice_range, IfOk, option_co
 ghost use Rattle.std.specs.Option.{option_map};
 ghost use Rattle.std.specs.List.{slice_get};
 ghost use Rattle.page_map.specs.Borders.{IsBorder, border_in};
-ghost use Rattle.page_map.specs.Pairs.{IsRising, found_at, place_in};
+ghost use Rattle.page_map.specs.Pairs.{IsRising, found_at};
 ghost use Rattle.page_map.specs.inner.Chunks.{root_entries, IsRoot};
 
-use crate::border::{Below, Border};
+use crate::border::Border;
 use crate::chunk::Chunk;
 use geo_base::NoMemory;
 use std::alloc::Global;
@@ -40,15 +40,6 @@ pub(crate) fn border_root<K: Ord, V, C: Chunk<K, V>, B: Border<K>>(
         Some(top) => top.place_where(border),
         None => 0,
     }
-}
-
-/// How many keys are below the key.
-pub(crate) fn place_root<K: Ord, V, C: Chunk<K, V>>(root: &Option<Arc<C>>, key: &K) -> u64
-    requires whole { IsRoot C.entries C.sound root.now }
-    requires rising { IsRising K.cmp (root_entries C.entries root.now) }
-    ensures { result ≡ place_in K.cmp key.now (root_entries C.entries root.now) }
-{
-    border_root::<K, V, C, Below<'_, K>>(root, &Below { key })
 }
 
 /// The pair at the place.

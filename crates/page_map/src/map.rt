@@ -5,9 +5,9 @@ ghost use Rattle.std.specs.List.{slice_get};
 ghost use Rattle.page_map.specs.Borders.{IsBorder, border_in};
 ghost use Rattle.page_map.specs.Pairs.{IsRising, found_at, put_in, without, place_in};
 
-use crate::border::Border;
+use crate::border::{Below, Border};
 use crate::chunk::Chunk;
-use crate::looking::{at_root, between_root, border_root, get_root, place_root};
+use crate::looking::{at_root, between_root, border_root, get_root};
 use crate::page::Page;
 use crate::root::{set_root, take_root};
 use crate::shelf::Shelf;
@@ -83,7 +83,8 @@ impl<K: Ord + Duplicate + Drop, V: Duplicate + Drop> PageMap<K, V> {
     pub fn place_of(&self, key: &K) -> u64
         ensures { result ≡ place_in K.cmp key.now self.now }
     {
-        place_root::<K, V, Top<K, V>>(&self.root, key)
+        self.rises();
+        self.place_where(&Below { key })
     }
 
     /// How many keys stand before the border, which is the place of the first pair from it on. Costs what

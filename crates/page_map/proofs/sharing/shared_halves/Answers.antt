@@ -16,7 +16,7 @@ returns-clause-last g c =
     chunk_shared g.C.Chunk.entries g.C.Chunk.sound c.in_ok-last.ensures.ok c.in_ok-first.ensures.whole.1 c.in_ok-first.ensures.some.1
 
 pub returns-clause-room : goal.returns-clause-room
-returns-clause-room g c =
-    ( subst g.C.Chunk.room (sym c.in_ok-first-2.ensures.ok) c.in_ok-first.ensures.room.0
-    , subst g.C.Chunk.room (sym c.in_ok-last.ensures.ok) c.in_ok-first.ensures.room.1
-    )
+returns-clause-room g c = (
+  subst g.C.Chunk.room (sym c.in_ok-first-2.ensures.ok) c.in_ok-first.ensures.room.0,
+  subst g.C.Chunk.room (sym c.in_ok-last.ensures.ok) c.in_ok-first.ensures.room.1,
+)
