@@ -1,6 +1,7 @@
 //! Plain Rust beside the proved merge of an epoch: the same candidates, the same words with the same steps on them, threads of
 //! std, and no proofs. Without a number of rounds it does nothing; else it prints what the program does.
 
+use std::collections::BTreeMap;
 use std::env;
 use std::sync::atomic::{AtomicU64, Ordering};
 use std::thread;
@@ -15,7 +16,7 @@ const DONE: usize = 1;
 const JUDGED: usize = 2;
 const HEADERS: usize = 3;
 
-#[derive(Clone, PartialEq)]
+#[derive(Clone, PartialEq, Eq, PartialOrd, Ord)]
 #[allow(dead_code)]
 enum Cell {
     Null,
@@ -24,7 +25,7 @@ enum Cell {
     Truth(bool),
 }
 
-#[derive(Clone, PartialEq)]
+#[derive(Clone, PartialEq, Eq, PartialOrd, Ord)]
 struct RowId {
     table: u8,
     key: Vec<Cell>,
@@ -179,17 +180,28 @@ enum Outcome {
     Beaten(RowId, CandId),
 }
 
-/// What a round asks of the epochs before it: here no row was ever changed.
+/// What a round asks of the epochs before it.
 trait Changes {
     fn last_change(&self, row: &RowId) -> u32;
 }
 
-struct Never;
+/// The rows of the snapshot, none of which was ever changed.
+struct Known<'a> {
+    rows: &'a BTreeMap<RowId, u8>,
+}
 
-impl Changes for Never {
-    fn last_change(&self, _row: &RowId) -> u32 {
-        0
+impl Changes for Known<'_> {
+    fn last_change(&self, row: &RowId) -> u32 {
+        self.rows.get(row).map_or(0, |epoch| u32::from(*epoch))
     }
+}
+
+fn rows_known(count: u32) -> BTreeMap<RowId, u8> {
+    let row = |key| RowId {
+        table: 0,
+        key: vec![Cell::Int(i64::from(key))],
+    };
+    (0..count).map(|key| (row(key), 0)).collect()
 }
 
 struct Round<C> {
@@ -324,10 +336,10 @@ impl<C: Changes> Round<C> {
     }
 }
 
-fn play(rows: u32, workers: u8) -> ([u128; 3], usize) {
+fn play(known: &BTreeMap<RowId, u8>, rows: u32, workers: u8) -> ([u128; 3], usize) {
     let batches = eight_regions(rows);
     let begun = Instant::now();
-    let (round, seats) = Round::new(batches, Never, workers);
+    let (round, seats) = Round::new(batches, Known { rows: known }, workers);
     let made = Instant::now();
     let seats = thread::scope(|scope| {
         let mut others = seats.into_iter();
@@ -350,17 +362,20 @@ fn main() {
     if rounds == 0 {
         return;
     }
-    for rows in [1, 4, 16] {
-        for workers in [1, 2, 4] {
-            let (mut best, committed) = play(rows, workers);
-            for _ in 1..rounds {
-                let (next, _) = play(rows, workers);
-                for part in 0..3 {
-                    best[part] = best[part].min(next[part]);
+    for count in [0, 1_000_000] {
+        let known = rows_known(count);
+        for rows in [1, 4, 16] {
+            for workers in [1, 2, 4] {
+                let (mut best, committed) = play(&known, rows, workers);
+                for _ in 1..rounds {
+                    let (next, _) = play(&known, rows, workers);
+                    for part in 0..3 {
+                        best[part] = best[part].min(next[part]);
+                    }
                 }
+                let [new, work, gather] = best;
+                println!("{count} {rows} {workers} {committed} {new} {work} {gather}");
             }
-            let [new, work, gather] = best;
-            println!("{rows} {workers} {committed} {new} {work} {gather}");
         }
     }
 }
