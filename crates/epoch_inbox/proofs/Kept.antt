@@ -1,6 +1,8 @@
 -- The entries of a map are the batches by their places.
-use Rattle.std.proofs.Common.{◌≡◌, ℕ, ◌+◌, ◌<◌, ◌≤◌, Bool, true, false, not, cond, List, [], ◌∷◌, ◌++◌, length, map, Option, Some, None, refl, sym, ◌∙◌, ap, ap₂, subst, arith, length-append}
-use Rattle.std.specs.Prelude.{is_some}
+use Rattle.std.proofs.Common.{◌≡◌, ℕ, ◌+◌, ◌<◌, ◌≤◌, Bool, true, false, not, cond, List, [], ◌∷◌, ◌++◌, length, map, Option, Some, None, refl, sym, ◌∙◌, ap, ap₂, subst, arith, length-append, append-nil}
+use denote.Ref.{Bor}
+use Rattle.std.proofs.lemmas.List.{map-append}
+use Rattle.std.specs.Prelude.{is_some, option_copied}
 use Rattle.std.specs.List.{AllByRecursion, filter}
 use Rattle.std.specs.List.Sorted.{IsStrictlySortedBy}
 use Rattle.std.specs.Map.{keys_of, values_of, lookup, remove_entry}
@@ -116,6 +118,10 @@ taken_none regions epoch entries taken kept none = record {
   few = omega (arith, ap length none);
 }
 
+-- the same, where what is taken isn't kept
+pub gone_none : (regions epoch : ℕ) (entries : List ((ℕ × ℕ) × Batch)) → IsKept regions entries → HasTaken regions epoch (values_of entries) entries 0 (held_below (values_of entries) epoch 0)
+gone_none regions epoch entries kept = taken_none regions epoch entries (held_below (values_of entries) epoch 0) kept (below_none (values_of entries) epoch)
+
 module _ (regions epoch : ℕ) (old : List Batch) (lawful : IsStrictlySortedBy place_cmp (map place_of old)) where
   pub taken_more : (entries now : List ((ℕ × ℕ) × Batch)) (region : ℕ) (taken after : List Batch) → HasTaken regions epoch old entries region taken →
       after ≡ taken ++ listed (lookup (tree.is_at (place_cmp (epoch, region))) entries) → now ≡ remove_entry (tree.is_at (place_cmp (epoch, region))) entries → IsStrictlySortedBy place_cmp (keys_of now) → HasTaken regions epoch old now (region + 1) after
@@ -140,6 +146,13 @@ module _ (regions epoch : ℕ) (old : List Batch) (lawful : IsStrictlySortedBy p
       one : (o : Option Batch) → length (listed o) ≤ 1
       one None = omega arith
       one (Some b) = omega arith
+
+  pub gone_more : (entries now : List ((ℕ × ℕ) × Batch)) (region : ℕ) → HasTaken regions epoch old entries region (held_below old epoch region) →
+      now ≡ remove_entry (tree.is_at (place_cmp (epoch, region))) entries → IsStrictlySortedBy place_cmp (keys_of now) → HasTaken regions epoch old now (region + 1) (held_below old epoch (region + 1))
+  gone_more entries now region h gone sorted =
+      let after : List Batch = held_below old epoch region ++ listed (lookup (tree.is_at (place_cmp (epoch, region))) entries) in
+      let more : HasTaken regions epoch old now (region + 1) after = taken_more entries now region (held_below old epoch region) after h refl gone sorted in
+      subst (HasTaken regions epoch old now (region + 1)) more.out more
 
   pub taken_all : AllByRecursion (λ b. b.region < regions) old → (entries : List ((ℕ × ℕ) × Batch)) (region : ℕ) (taken : List Batch) → HasTaken regions epoch old entries region taken → region ≡ regions →
       (taken ≡ held_of old epoch) × (values_of entries ≡ others old epoch)
@@ -175,3 +188,26 @@ module _ (inbox : Holding) (epoch region have : ℕ) (lawful : IsLawful inbox) (
   -- all are counted
   pub counts_all : region ≡ inbox.regions → have ≡ length (held_of inbox.held epoch)
   counts_all end = counted ∙ ap (λ (n : ℕ). length (held_below inbox.held epoch n)) end ∙ ap length (below_all inbox.held epoch inbox.regions lawful.below)
+
+-- ---- lending an epoch region by region
+
+-- the batches behind these loans
+abbrev pub lent_of : List (Bor Batch) → List Batch
+lent_of lent = map (λ batch. batch.now) lent
+
+module _ (regions : ℕ) (entries : List ((ℕ × ℕ) × Batch)) (kept : IsKept regions entries) (epoch region : ℕ) (lent : List (Bor Batch)) (before : lent_of lent ≡ held_below (values_of entries) epoch region) where
+  lends_found : (found : Option (Bor Batch)) → option_copied found ≡ lookup (tree.is_at (place_cmp (epoch, region))) entries → lent_of lent ++ listed (option_copied found) ≡ held_below (values_of entries) epoch (region + 1)
+  lends_found found at =
+      let here : option_copied found ≡ held_at (values_of entries) epoch region = at ∙ finds regions entries kept epoch region in
+      ap₂ (λ (l : List Batch) (o : Option Batch). l ++ listed o) before here ∙ sym (below_more (values_of entries) epoch region kept.lawful.rising)
+
+  -- one more is lent
+  pub lends_more : (now : List (Bor Batch)) (found : Option (Bor Batch)) (batch : Bor Batch) → found ≡ Some batch → option_copied found ≡ lookup (tree.is_at (place_cmp (epoch, region))) entries → now ≡ lent ++ batch ∷ [] →
+      lent_of now ≡ held_below (values_of entries) epoch (region + 1)
+  lends_more now found batch some at is =
+      ap lent_of is ∙ map-append (λ (b : Bor Batch). b.now) lent (batch ∷ []) ∙ ap (λ (o : Option (Bor Batch)). lent_of lent ++ listed (option_copied o)) (sym some) ∙ lends_found found at
+
+  -- there is none to lend
+  pub lends_none : (found : Option (Bor Batch)) → found ≡ None → option_copied found ≡ lookup (tree.is_at (place_cmp (epoch, region))) entries → lent_of lent ≡ held_below (values_of entries) epoch (region + 1)
+  lends_none found none at =
+      sym (append-nil (lent_of lent)) ∙ ap (λ (o : Option (Bor Batch)). lent_of lent ++ listed (option_copied o)) (sym none) ∙ lends_found found at

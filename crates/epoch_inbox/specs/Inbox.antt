@@ -1,5 +1,5 @@
 -- An inbox holds batches, at most one of each epoch and region, in the order of their places.
-use Rattle.std.specs.Prelude.{◌≡◌, ℕ, ◌+◌, ◌<◌, ◌==◌, Bool, true, not, ◌&&◌, ◌||◌, List, [], ◌∷◌, length, map, Option, Some, None, is_some, nat_lt, nat_le, if◌then◌else◌}
+use Rattle.std.specs.Prelude.{◌≡◌, ◌↔◌, ℕ, zero, suc, ◌+◌, ◌<◌, ◌==◌, Bool, true, not, ◌&&◌, ◌||◌, List, [], ◌∷◌, length, map, Option, Some, None, is_some, nat_lt, nat_le, if◌then◌else◌}
 use Rattle.std.specs.List.{AllByRecursion, filter, slice_get}
 use Rattle.std.specs.List.Sorted.{IsStrictlySortedBy}
 use Rattle.std.specs.Ordering.{nat_cmp, ordering_then, match_ordering}
@@ -64,6 +64,11 @@ pub record IsLawful (inbox : Holding) : Type 0 where
 abbrev pub IsWhole : Holding → ℕ → Type 0
 IsWhole inbox epoch = (region : ℕ) → region < inbox.regions → is_held inbox.held epoch region ≡ true
 
+-- of how many regions below this one the epoch's batch is held
+abbrev pub regions_held : List Batch → ℕ → ℕ → ℕ
+regions_held held epoch zero = 0
+regions_held held epoch (suc region) = regions_held held epoch region + (if is_held held epoch region then 1 else 0)
+
 -- ---- arrivals
 
 -- what becomes of a batch that comes, where this epoch is published
@@ -106,3 +111,12 @@ pub record AreInOrder (inbox : Holding) (epoch : ℕ) (batches : List Batch) : T
 -- the batches of a whole epoch are so
 abbrev pub WholeEpochsAreInOrder : Type 0
 WholeEpochsAreInOrder = (inbox : Holding) (epoch : ℕ) → IsLawful inbox → IsWhole inbox epoch → AreInOrder inbox epoch (held_of inbox.held epoch)
+
+-- as many batches of the epoch are held as there are regions of which one is held, and these are all regions exactly where the epoch is whole
+pub record AreCounted (inbox : Holding) (epoch : ℕ) : Type 0 where
+  pub counted : length (held_of inbox.held epoch) ≡ regions_held inbox.held epoch inbox.regions
+  pub all : (length (held_of inbox.held epoch) ≡ inbox.regions) ↔ IsWhole inbox epoch
+
+-- the batches of each epoch are so
+abbrev pub HeldBatchesAreCounted : Type 0
+HeldBatchesAreCounted = (inbox : Holding) (epoch : ℕ) → IsLawful inbox → AreCounted inbox epoch

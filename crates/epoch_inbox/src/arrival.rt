@@ -5,6 +5,6 @@ pub enum Arrival {
     New,
     /// Its epoch is published, or a batch of its region and epoch is held.
     Known,
-    /// Its epoch is above this limit, which is 64 epochs behind the published one.
+    /// Its epoch is above this limit, which is 64 epochs past the published one.
     Far(u64),
 }

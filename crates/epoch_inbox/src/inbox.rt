@@ -1,10 +1,10 @@
 //! The inbox and its calls.
-ghost use Rattle.std.specs.Prelude.{◌≡◌, ◌<◌, ◌↔◌, not, [], length, IfOk, OnErr, OnOk, IsErr, IsTrue};
+ghost use Rattle.std.specs.Prelude.{◌≡◌, ◌<◌, ◌↔◌, not, [], length, map, IfOk, OnErr, OnOk, IsErr, IsTrue};
 ghost use Rattle.std.specs.Option.{option_copied};
 ghost use Rattle.epoch_inbox.specs.Inbox.{IsLawful, IsWhole, held_at, held_of, is_held, others, with_batch, arrival_of, after_arrival};
 
 use crate::arrival::Arrival;
-use crate::taking::{BatchMap, take_epoch};
+use crate::taking::{BatchMap, drop_batches, lend_epoch, take_epoch};
 use geo_base::limits::MAX_AGE;
 use geo_base::{Epoch, NoMemory, RegionNo};
 use std::alloc::Global;
@@ -59,9 +59,22 @@ impl Inbox {
     {
         let arrival = self.arrival(published, &batch);
         if let Arrival::New = arrival {
-            self.insert(batch)?;
+            self.hold(batch)?;
         }
         Ok(arrival)
+    }
+
+    /// Holds a batch, whatever is published: one that is held of its region and epoch gives way. So a region that
+    /// starts again has its own batches.
+    ///
+    /// The only error is want of memory, which leaves the inbox as it was. Costs a search by halving.
+    pub fn hold(&mut self, batch: Batch) -> Result<(), NoMemory>
+        requires { batch.region < self.old.regions }
+        ensures held { OnOk result (self.new ≡ record { regions = self.old.regions; held = with_batch self.old.held batch }) }
+        ensures unchanged { OnErr result (self.new ≡ self.old) }
+    {
+        self.batches.insert((batch.epoch, batch.region), batch)?;
+        Ok(())
     }
 
     /// What becomes of a batch that comes.
@@ -78,14 +91,12 @@ impl Inbox {
         Arrival::New
     }
 
-    /// Holds one more batch.
-    fn insert(&mut self, batch: Batch) -> Result<(), NoMemory>
-        requires { batch.region < self.old.regions }
-        ensures held { OnOk result (self.new ≡ record { regions = self.old.regions; held = with_batch self.old.held batch }) }
-        ensures unchanged { OnErr result (self.new ≡ self.old) }
+    /// That what is held is lawful: its places rise, and its batches are of the regions that there are. Does
+    /// nothing when it runs.
+    pub fn lawful(&self)
+        ensures { IsLawful self.now }
     {
-        self.batches.insert((batch.epoch, batch.region), batch)?;
-        Ok(())
+        let _regions = self.regions;
     }
 
     /// Whether the epoch's batch of every region is held. Costs a search by halving for each region.
@@ -128,6 +139,16 @@ impl Inbox {
         self.batches.get(&(epoch, region))
     }
 
+    /// Lends the batches of an epoch, in the order of their regions: what [`Inbox::take`] would take out, which
+    /// stays held.
+    ///
+    /// The only error is want of memory for the list. Costs a search by halving for each region.
+    pub fn batches(&self, epoch: Epoch) -> Result<Vec<&Batch>, NoMemory>
+        ensures { IfOk result (λ batches. map (λ batch. batch.now) batches.items ≡ held_of self.now.held epoch) }
+    {
+        lend_epoch(self.alloc, &self.batches, self.regions, epoch)
+    }
+
     /// Takes the batches of an epoch out, in the order of their regions. Of a whole epoch that is one batch of
     /// each region, where region 0's comes first; of another epoch it is those that are held.
     ///
@@ -142,5 +163,13 @@ impl Inbox {
         let mut taken = Vec::with_capacity(self.alloc, regions as usize)?;
         take_epoch(&mut self.batches, regions, epoch, &mut taken);
         Ok(taken)
+    }
+
+    /// Lets the batches of an epoch go. Takes no memory. Costs a search by halving for each region.
+    pub fn drop_epoch(&mut self, epoch: Epoch)
+        ensures { self.new ≡ record { regions = self.old.regions; held = others self.old.held epoch } }
+    {
+        let regions = self.regions;
+        drop_batches(&mut self.batches, regions, epoch);
     }
 }

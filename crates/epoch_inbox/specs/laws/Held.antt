@@ -13,7 +13,7 @@ use Rattle.std.proofs.lemmas.Map.Lookups.{exact_pairs, exact_unsigned}
 use Rattle.std.proofs.lemmas.Map.Keys.{sorted_head, sorted_tail}
 use Rattle.geo_base.specs.laws.Results.{chosen}
 use Rattle.write_set.specs.declared.batch.Batch.{Batch}
-use Rattle.epoch_inbox.specs.Inbox.{place_of, place_cmp, is_at, held_at, is_held, held_of, others, with_batch, AreOfRegions, AreInOrder, FoundBatchesAreOfTheirPlaces, PutBatchesAreHeld, TakenEpochsAreGone, WholeEpochsAreInOrder}
+use Rattle.epoch_inbox.specs.Inbox.{place_of, place_cmp, is_at, held_at, is_held, held_of, others, with_batch, AreOfRegions, AreInOrder, regions_held, HeldBatchesAreCounted, FoundBatchesAreOfTheirPlaces, PutBatchesAreHeld, TakenEpochsAreGone, WholeEpochsAreInOrder}
 use Rattle.epoch_inbox.specs.inner.Entries.{held_below, left_from, listed}
 
 -- ---- filters
@@ -374,3 +374,50 @@ pub whole_ordered : WholeEpochsAreInOrder
 whole_ordered inbox epoch lawful whole =
     let gone : Gone inbox.held epoch lawful.rising inbox.regions = gone_upto inbox.held epoch lawful.rising inbox.regions whole inbox.regions (omega arith) in
     subst (AreInOrder inbox epoch) (below_all inbox.held epoch inbox.regions lawful.below) (record { all = gone.all; order = gone.order; each = gone.each })
+
+-- ---- how many batches of an epoch are held
+
+module _ (held : List Batch) (epoch : ℕ) where
+  counted_below : Rising held → (region : ℕ) → length (held_below held epoch region) ≡ regions_held held epoch region
+  counted_below rising zero = ap length (below_none held epoch)
+  counted_below rising (suc region) =
+      let more : length (held_below held epoch (region + 1)) ≡ length (held_below held epoch region) + length (listed (held_at held epoch region)) = ap length (below_more held epoch region rising) ∙ length-append (held_below held epoch region) (listed (held_at held epoch region)) in
+      subst (λ (n : ℕ). length (held_below held epoch n) ≡ regions_held held epoch region + cond (is_held held epoch region) 1 0) (omega arith)
+      (more ∙ ap₂ (λ (m n : ℕ). m + n) (counted_below rising region) (one (held_at held epoch region)))
+    where
+      one : (o : Option Batch) → length (listed o) ≡ cond (is_some o) 1 0
+      one None = refl
+      one (Some b) = refl
+
+  few_held : (region : ℕ) → regions_held held epoch region ≤ region
+  few_held zero = omega arith
+  few_held (suc region) = by (is_held held epoch region) (few_held region)
+    where
+      by : (b : Bool) → regions_held held epoch region ≤ region → regions_held held epoch region + cond b 1 0 ≤ suc region
+      by true few = omega (arith, few)
+      by false few = omega (arith, few)
+
+  all_held : (regions : ℕ) → regions_held held epoch regions ≡ regions → (region : ℕ) → region < regions → is_held held epoch region ≡ true
+  all_held zero e region lt = absurd (omega arith)
+  all_held (suc regions) e region lt = by (is_held held epoch regions) refl e (few_held regions) (all_held regions)
+    where
+      by : (b : Bool) → is_held held epoch regions ≡ b → regions_held held epoch regions + cond b 1 0 ≡ suc regions → regions_held held epoch regions ≤ regions →
+          (regions_held held epoch regions ≡ regions → (r : ℕ) → r < regions → is_held held epoch r ≡ true) → is_held held epoch region ≡ true
+      by true here e few before = elim (cases_eq region regions) [
+        | inl same ↦ ap (is_held held epoch) same ∙ here
+        | inr apart ↦ before (omega (arith, e)) region (omega (arith, lt))
+      ]
+      by false here e few before = absurd (omega (arith, e, few))
+
+  each_held : (regions : ℕ) → ((region : ℕ) → region < regions → is_held held epoch region ≡ true) → regions_held held epoch regions ≡ regions
+  each_held zero whole = refl
+  each_held (suc regions) whole =
+      ap₂ (λ (n : ℕ) (b : Bool). n + cond b 1 0) (each_held regions (λ region lt. whole region (omega arith))) (whole regions (omega arith)) ∙ omega arith
+
+pub held_counted : HeldBatchesAreCounted
+held_counted inbox epoch lawful =
+    let counted : length (held_of inbox.held epoch) ≡ regions_held inbox.held epoch inbox.regions = sym (ap length (below_all inbox.held epoch inbox.regions lawful.below)) ∙ counted_below inbox.held epoch lawful.rising inbox.regions in
+    record {
+      counted = counted;
+      all = (λ e. all_held inbox.held epoch inbox.regions (sym counted ∙ e), λ h. counted ∙ each_held inbox.held epoch inbox.regions h);
+    }

@@ -1,7 +1,7 @@
 use Rattle.std.proofs.Common.{◌<◌, arith, ap}
 use Rattle.epoch_inbox.specs.Inbox.{Holding}
 use Rattle.epoch_inbox.proofs.Kept.{kept_more, seen_more}
-use Rattle.epoch_inbox.proofs.inbox.Inbox.insert.Goals as goal
+use Rattle.epoch_inbox.proofs.inbox.Inbox.hold.Goals as goal
 
 pub invariant_of-self-2 : goal.invariant_of-self-2
 invariant_of-self-2 c =
