@@ -1,12 +1,12 @@
 //! Batches that come to an inbox for three regions.
-ghost use Rattle.std.specs.Prelude.{◌≡◌, ◌<◌};
+ghost use Rattle.std.specs.Prelude.{◌≡◌, ◌<◌, IfOk};
 
 use epoch_inbox::{Arrival, Inbox};
 use geo_base::{Epoch, RegionNo};
 use std::alloc::Global;
 use std::fmt::Write;
 use std::test::Fail;
-use write_set::{Batch, CandidateList};
+use write_set::{Batch, Candidate, CandidateList, WriteSet};
 
 /// A batch without candidates comes.
 fn put(
@@ -141,6 +141,106 @@ fn held_batches_are_found(rt: HostRuntime) -> Result<(), Fail> {
     }
     for (epoch, region) in [(6, 0), (8, 0), (8, 2), (9, 1), (7, 3), (0, 7)] {
         assert_eq!(rt; seen(&inbox, epoch, region), (true, None));
+    }
+    Ok(())
+}
+
+/// A batch of region 1 and epoch 7 with so many candidates.
+fn batch_of(alloc: Global, count: u8) -> Result<Batch, Fail>
+    ensures { IfOk result (λ batch. batch.region ≡ 1) }
+{
+    let mut items = Vec::new(alloc);
+    for _ in 0..count {
+        items.push(Candidate {
+            start: 6,
+            set: WriteSet::empty(alloc),
+        })?;
+    }
+    Ok(Batch {
+        region: 1,
+        epoch: 7,
+        items: CandidateList::new(items),
+    })
+}
+
+/// How many candidates the held batch of region 1 and epoch 7 has, if it is held.
+fn candidates(inbox: &Inbox) -> Option<usize> {
+    match inbox.get(7, 1) {
+        Some(batch) => Some(batch.items.items().len()),
+        None => None,
+    }
+}
+
+/// A batch with so many candidates comes where the epoch of the first word is published, or it is to be held,
+/// of which nothing is told.
+fn again(alloc: Global, inbox: &mut Inbox, words: &str) -> Result<Option<Arrival>, Fail>
+    requires { inbox.old.regions ≡ 3 }
+    ensures { inbox.new.regions ≡ 3 }
+{
+    let (published, count) = words.split_once(' ').ok_or("one word")?;
+    let count = count.parse()?;
+    if published == "hold" {
+        inbox.hold(batch_of(alloc, count)?)?;
+        return Ok(None);
+    }
+    let published = published.parse()?;
+    Ok(Some(inbox.put(published, batch_of(alloc, count)?)?))
+}
+
+/// Whether the line's batch is told so, and the held one has so many candidates then.
+fn is_held_then(alloc: Global, inbox: &mut Inbox, line: &str) -> Result<bool, Fail>
+    requires { inbox.old.regions ≡ 3 }
+    ensures { inbox.new.regions ≡ 3 }
+{
+    let (words, want) = line.split_once(" => ").ok_or("a line without an answer")?;
+    let arrival = again(alloc, inbox, words)?;
+    let held = candidates(inbox);
+    Ok(format!(in alloc; "{arrival:?} {held:?}")?.as_str() == want)
+}
+
+/// A batch that comes again leaves the one that is held, and one that is to be held replaces it, whatever is
+/// published.
+const AGAIN: &str = "\
+5 1 => Some(New) Some(1)
+5 2 => Some(Known) Some(1)
+hold 2 => None Some(2)
+7 3 => Some(Known) Some(2)
+hold 0 => None Some(0)
+7 3 => Some(Known) Some(0)";
+
+#[test]
+fn a_known_batch_leaves_the_held_one(rt: HostRuntime) -> Result<(), Fail> {
+    let mut inbox = Inbox::new(rt.alloc(), 3);
+    for line in AGAIN.lines() {
+        assert!(rt; is_held_then(rt.alloc(), &mut inbox, line)?, "{line}");
+    }
+    Ok(())
+}
+
+/// The regions of the batches that are lent of an epoch.
+fn lent(alloc: Global, inbox: &Inbox, epoch: Epoch) -> Result<String, Fail> {
+    let mut out = String::new(alloc);
+    for batch in &inbox.batches(epoch)? {
+        write!(out, "{} of {}; ", batch.region, batch.epoch)?;
+    }
+    Ok(out)
+}
+
+// Each row has an epoch that is dropped, and what is then lent of another.
+#[test]
+fn batches_are_lent_until_they_are_dropped(rt: HostRuntime) -> Result<(), Fail> {
+    let alloc = rt.alloc();
+    let mut inbox = held(alloc)?;
+    for (dropped, epoch, want) in [
+        (9, 7, "0 of 7; 1 of 7; 2 of 7; "),
+        (7, 7, ""),
+        (7, 6, "2 of 6; "),
+        (7, 8, "1 of 8; "),
+        (8, 6, "2 of 6; "),
+        (8, 8, ""),
+    ] {
+        inbox.drop_epoch(dropped);
+        assert_eq!(rt; lent(alloc, &inbox, epoch)?.as_str(), want);
     }
     Ok(())
 }
