@@ -1,3 +1,5 @@
 pub mod Answers
+pub mod Changes
 pub mod Effects
 pub mod inner
+pub mod laws

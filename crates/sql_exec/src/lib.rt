@@ -5,15 +5,23 @@
 //! the plan that is chosen for the query, and `select_by` by any plan that leaves out only what the conditions
 //! drop: its lines or its first fault. Neither is handed more rows than the plan reaches. They take queries of
 //! one table without groups, order and limit. What writes is defined, and its bodies are to come.
+//!
+//! `specs/Changes.antt` says what holds of the changes of a statement that writes. Laws say that it holds of each,
+//! and that rows of a schema stay such rows under these changes.
 #![tactic(auto)]
 
 mod effect;
 mod keeping;
+mod laws;
 mod lines;
 mod lock;
 mod queries;
 mod reaching;
 
 pub use effect::Effect;
+pub use laws::{
+    deleted_rows_are_there, fitting_is_the_rule_of_rows, inserted_rows_fit, rows_stay_rows,
+    touched_rows_are_there, updated_rows_fit,
+};
 pub use lock::{LineList, Locked};
 pub use queries::{select, select_by};

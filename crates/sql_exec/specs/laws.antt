@@ -1,0 +1,9 @@
+-- Laws, with their proofs, for the proofs of the crates above.
+pub mod Fitting
+pub mod Inserted
+pub mod KeptRows
+pub mod Parts
+pub mod Reading
+pub mod Sound
+pub mod Staying
+pub mod Updated

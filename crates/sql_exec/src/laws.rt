@@ -1,0 +1,78 @@
+//! Laws of statements that write, each the contract of a function that does nothing.
+ghost use Rattle.std.specs.Prelude.{◌≡◌, ◌↔◌, List, All, Ok, Err};
+ghost use Rattle.geo_base.specs.declared.cell.Cell.{Cell};
+ghost use Rattle.geo_schema.specs.declared.fault.CellFault.{CellFault};
+ghost use Rattle.geo_schema.specs.declared.table.TableDef.{TableDef};
+ghost use Rattle.geo_schema.specs.Rows.{IsRow, IsRowFault};
+ghost use Rattle.geo_schema.specs.Schemas.{IsSchema, Tables};
+ghost use Rattle.row_source.specs.declared.fault.ExecFault.{ExecFault};
+ghost use Rattle.row_source.specs.Sources.{AreRowsOf};
+ghost use Rattle.sql_bind.specs.declared.bound.BoundDelete.{BoundDelete};
+ghost use Rattle.sql_bind.specs.declared.bound.BoundInsert.{BoundInsert};
+ghost use Rattle.sql_bind.specs.declared.bound.BoundSelect.{BoundSelect};
+ghost use Rattle.sql_bind.specs.declared.bound.BoundUpdate.{BoundUpdate};
+ghost use Rattle.sql_bind.specs.Names.{column_types};
+ghost use Rattle.sql_bind.specs.Sound.{IsSoundInsert, IsSoundUpdate};
+ghost use Rattle.sql_exec.specs.Changes.{AreChangesOfRows, ArePutsOfNewRows, AreTouches, IsFaultFor, IsPut, IsSoundChange};
+ghost use Rattle.sql_exec.specs.Effects.{delete_changes, fitting, insert_changes, lock_changes, locked_table, update_changes};
+ghost use Rattle.sql_expr.specs.Rows.{HasTypes};
+ghost use Rattle.write_set.specs.declared.change.Change.{Change};
+ghost use Rattle.write_set.specs.declared.change.Change.TheVariants.{Remove};
+ghost use Rattle.write_set.specs.declared.row_change.RowChange.{RowChange};
+ghost use Rattle.write_set.specs.Net.{IsNet, TouchesKnown};
+ghost use Rattle.write_set.specs.Overlay.{Table, overlay};
+ghost use Rattle.write_set.specs.Sets.{ChangeOfRow, Rises};
+
+use sql_bind::bound_values_are_of_their_columns_types;
+
+/// A statement tests cells by the rule of rows. Cells of the columns' types, one for each column, fit exactly where
+/// they are a row of the table; and their fault names the column of the first that doesn't suit its column.
+pub fn fitting_is_the_rule_of_rows()
+    ensures rows { (table : TableDef) (cells : List Cell) → HasTypes (column_types table.columns) cells →
+        (fitting table cells ≡ Ok cells) ↔ IsRow table cells }
+    ensures faults { (table : TableDef) (cells : List Cell) (e : ExecFault) → HasTypes (column_types table.columns) cells →
+        (fitting table cells ≡ Err e) ↔ ((why : CellFault) × IsRowFault table cells why × IsFaultFor table why e) }
+{}
+
+/// What a sound INSERT puts are rows of its table that aren't there, none of them twice.
+pub fn inserted_rows_fit()
+    ensures fit { (tables : Tables) (insert : BoundInsert) (base : Table) (own : List ChangeOfRow) (changes : List RowChange) →
+        IsSchema tables → IsSoundInsert tables insert → insert_changes tables insert base own ≡ Ok changes →
+        ArePutsOfNewRows tables insert.table base own changes }
+{
+    bound_values_are_of_their_columns_types();
+}
+
+/// What a sound UPDATE puts are rows of its table in the place of those that are there, each with its key.
+pub fn updated_rows_fit()
+    ensures fit { (tables : Tables) (update : BoundUpdate) (base : Table) (own : List ChangeOfRow) (changes : List RowChange) →
+        IsSoundUpdate tables update → AreRowsOf tables (overlay base own) → update_changes tables update base own ≡ Ok changes →
+        AreChangesOfRows IsPut tables update.table base own changes }
+{
+    bound_values_are_of_their_columns_types();
+}
+
+/// What a DELETE removes are rows of its table that are there.
+pub fn deleted_rows_are_there()
+    ensures there { (tables : Tables) (delete : BoundDelete) (base : Table) (own : List ChangeOfRow) (changes : List RowChange) →
+        Rises (overlay base own) → delete_changes delete base own ≡ Ok changes →
+        AreChangesOfRows (λ (change : Change). change ≡ Remove) tables delete.table base own changes }
+{}
+
+/// What FOR UPDATE touches are rows of its table that are there. The transaction's net lacks them and the base has
+/// them, so that a net may take the touches.
+pub fn touched_rows_are_there()
+    ensures there { (tables : Tables) (query : BoundSelect) (base : Table) (own : List ChangeOfRow) (lines : List (List Cell)) (touches : List RowChange) →
+        Rises base → Rises own → lock_changes query base own ≡ Ok (lines, touches) →
+        AreTouches tables (locked_table query.tables) base own touches }
+    ensures taken { (query : BoundSelect) (base : Table) (own : List ChangeOfRow) (lines : List (List Cell)) (touches : List RowChange) →
+        Rises base → Rises own → lock_changes query base own ≡ Ok (lines, touches) → TouchesKnown own touches }
+{}
+
+/// Rows of a schema stay rows of it under the net of sound changes, as those of statements are: what a statement
+/// leaves, the next one may work on.
+pub fn rows_stay_rows()
+    ensures stay { (tables : Tables) (base : Table) (own : List ChangeOfRow) (changes : List RowChange) (net : List ChangeOfRow) →
+        Rises base → Rises own → AreRowsOf tables (overlay base own) → All (IsSoundChange tables base) changes → IsNet own changes net →
+        AreRowsOf tables (overlay base net) }
+{}
