@@ -1,26 +1,31 @@
-//! What a query is answered, as a text: how many rows were handed out, a colon, and its lines or its fault.
-ghost use Rattle.std.specs.Prelude.{◌≡◌, false, None, [], length, IsTrue};
+//! What a statement is answered, as a text: how many rows were handed out, a colon, and its lines or its fault. Of a
+//! statement that writes, the net after it stands behind a semicolon, and in front of that how many rows it has changed.
+ghost use Rattle.std.specs.Prelude.{◌≡◌, false, [], length, IsTrue};
 ghost use Rattle.row_source.specs.Sources.{AreRowsOf};
-ghost use Rattle.sql_bind.specs.Sound.{IsSoundSelect};
+ghost use Rattle.sql_bind.specs.Sound.{IsSoundDelete, IsSoundLock, IsSoundSelect};
 ghost use Rattle.sql_bind.specs.Statements as statements;
+ghost use Rattle.write_set.specs.Overlay.{overlay};
 
 use crate::counted::Counted;
+use crate::nets::print_net;
 use geo_base::{NoMemory, print_row};
 use geo_schema::Schema;
 use row_source::{ExecFault, Steps};
 use sql_ast::Statement;
-use sql_bind::{Bound, BoundSelect, bind};
-use sql_exec::{LineList, select};
+use sql_bind::{Bound, BoundDelete, BoundSelect, bind};
+use sql_exec::{Effect, LineList, Locked, delete, lock, select};
 use sql_parse::parse;
 use std::alloc::Global;
 use std::sync::ledger::Ledger;
 use std::test::Fail;
+use write_set::WriteSet;
 
 fn fault_text(fault: &ExecFault) -> &'static str {
     match fault {
         ExecFault::Overflow => " Overflow",
         ExecFault::DivideByZero => " DivideByZero",
         ExecFault::ResultTooLong => " ResultTooLong",
+        ExecFault::TooManyRows => " TooManyRows",
         ExecFault::NoMemory => " NoMemory",
         _ => " a fault of a write",
     }
@@ -41,17 +46,35 @@ fn print_answer(out: &mut String, answer: &Result<LineList, ExecFault>) -> Resul
     }
 }
 
-/// Whether a query has one table, and neither groups nor order nor limit.
+fn print_locked(out: &mut String, answer: &Result<Locked, ExecFault>) -> Result<(), NoMemory> {
+    match answer {
+        Ok(locked) => {
+            print_lines(out, &locked.lines)?;
+            out.push_str(";")?;
+            print_net(out, &locked.own)
+        }
+        Err(fault) => Ok(out.push_str(fault_text(fault))?),
+    }
+}
+
+fn print_effect(out: &mut String, answer: &Result<Effect, ExecFault>) -> Result<(), NoMemory> {
+    match answer {
+        Ok(effect) => {
+            let changed = effect.changed;
+            write!(out, " {changed};")?;
+            print_net(out, &effect.own)
+        }
+        Err(fault) => Ok(out.push_str(fault_text(fault))?),
+    }
+}
+
+/// Whether a query has one table, and neither groups nor order.
 fn is_plain(query: &BoundSelect) -> bool
     ensures one { IsTrue result → length query.now.tables ≡ 1 }
     ensures ungrouped { IsTrue result → query.now.grouped ≡ false }
     ensures unordered { IsTrue result → query.now.order ≡ [] }
-    ensures uncut { IsTrue result → query.now.limit ≡ None }
 {
-    query.tables.items().len() == 1
-        && !query.grouped
-        && query.order.items().is_empty()
-        && query.limit.is_none()
+    query.tables.items().len() == 1 && !query.grouped && query.order.items().is_empty()
 }
 
 fn selected<L: Ledger>(
@@ -76,6 +99,51 @@ fn selected<L: Ledger>(
     Ok(out)
 }
 
+fn locked<L: Ledger>(
+    alloc: Global,
+    schema: &Schema,
+    source: &Counted,
+    own: &WriteSet,
+    query: &BoundSelect,
+    steps: &mut Steps<L>,
+) -> Result<String, Fail>
+    requires sound { IsSoundLock schema.now query.now }
+    requires schema { source.now.list.tables ≡ schema.now }
+    requires rows { AreRowsOf schema.now source.now.list.rows }
+    requires laid { source.now.list.rows ≡ overlay source.now.list.base own.now }
+{
+    if !is_plain(query) {
+        return Err("a query of another form".into());
+    }
+    let answer = lock(alloc, query, source, own, schema, steps);
+    let count = source.take_count();
+    let mut out = format!(in alloc; "{count}:")?;
+    print_locked(&mut out, &answer)?;
+    drop(answer);
+    Ok(out)
+}
+
+fn deleted<L: Ledger>(
+    alloc: Global,
+    schema: &Schema,
+    source: &Counted,
+    own: &WriteSet,
+    query: &BoundDelete,
+    steps: &mut Steps<L>,
+) -> Result<String, Fail>
+    requires sound { IsSoundDelete schema.now query.now }
+    requires schema { source.now.list.tables ≡ schema.now }
+    requires rows { AreRowsOf schema.now source.now.list.rows }
+    requires laid { source.now.list.rows ≡ overlay source.now.list.base own.now }
+{
+    let answer = delete(alloc, query, source, own, schema, steps);
+    let count = source.take_count();
+    let mut out = format!(in alloc; "{count}:")?;
+    print_effect(&mut out, &answer)?;
+    drop(answer);
+    Ok(out)
+}
+
 /// Whether the statement is one that is bound.
 fn is_of_tables(statement: &Statement) -> bool
     ensures { result ≡ statements.is_of_tables statement.now }
@@ -94,16 +162,19 @@ fn statement_of(alloc: Global, text: &str) -> Result<Statement, Fail> {
     Ok(parse(alloc, text)?)
 }
 
-/// What the statement of a text is answered, which has to be a query of one table without groups, order and limit.
+/// What the statement of a text is answered behind the net of the transaction. It has to be a DELETE, or a query of one
+/// table without groups and order.
 pub fn answer<L: Ledger>(
     alloc: Global,
     schema: &Schema,
     source: &Counted,
+    own: &WriteSet,
     text: &str,
     steps: &mut Steps<L>,
 ) -> Result<String, Fail>
     requires schema { source.now.list.tables ≡ schema.now }
     requires rows { AreRowsOf schema.now source.now.list.rows }
+    requires laid { source.now.list.rows ≡ overlay source.now.list.base own.now }
 {
     let statement = statement_of(alloc, text)?;
     if !is_of_tables(&statement) {
@@ -113,7 +184,9 @@ pub fn answer<L: Ledger>(
     drop(statement);
     let answer = match &bound {
         Ok(Bound::Select(query)) => selected(alloc, schema, source, query, steps),
-        _ => Err("no query".into()),
+        Ok(Bound::Lock(query)) => locked(alloc, schema, source, own, query, steps),
+        Ok(Bound::Delete(query)) => deleted(alloc, schema, source, own, query, steps),
+        _ => Err("another statement".into()),
     };
     drop(bound);
     answer

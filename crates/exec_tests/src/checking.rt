@@ -1,10 +1,13 @@
-//! Queries and what is wanted of them, as lines of a text.
-ghost use Rattle.std.specs.Prelude.{◌≡◌, ◌<◌};
+//! Statements and what is wanted of them, as lines of a text.
+ghost use Rattle.std.specs.Prelude.{◌≡◌, ◌<◌, IfOk};
 ghost use Rattle.row_source.specs.Sources.{AreRowsOf};
+ghost use Rattle.write_set.specs.Overlay.{overlay};
 
 use crate::asking::answer;
 use crate::counted::Counted;
-use crate::rows::rows_of;
+use crate::laying::laid;
+use crate::nets::net_of;
+use crate::rows::{are_rows, rows_of};
 use crate::tables::schema_of;
 use geo_schema::Schema;
 use row_source::{ListSource, Steps};
@@ -13,6 +16,7 @@ use std::cell::Cell;
 use std::marker::Brand;
 use std::sync::ledger::{Blank, Ledger};
 use std::test::Fail;
+use write_set::WriteSet;
 
 /// Accounts with an index of their owners; customers with names as keys; events with a key of two columns, which aren't
 /// in their order, and an index of their kinds; and a table without rows.
@@ -37,27 +41,46 @@ const ROWS: &str = "\
 2: 9 2 20
 2: 1 3 10";
 
-/// The line and what its query is answered, if that isn't what the line says.
+/// The line and what its statement is answered, if that isn't what the line says.
 fn wrong<L: Ledger>(
     alloc: Global,
     schema: &Schema,
     source: &Counted,
+    own: &WriteSet,
     line: &str,
     steps: &mut Steps<L>,
 ) -> Result<Option<String>, Fail>
     requires schema { source.now.list.tables ≡ schema.now }
     requires rows { AreRowsOf schema.now source.now.list.rows }
+    requires laid { source.now.list.rows ≡ overlay source.now.list.base own.now }
 {
     let (text, want) = line.split_once(" => ").ok_or("a line without an answer")?;
-    let found = answer(alloc, schema, source, text, steps)?;
+    let found = answer(alloc, schema, source, own, text, steps)?;
     if found.as_str() == want {
         return Ok(None);
     }
     Ok(Some(format!(in alloc; "{line}, but found {found}")?))
 }
 
+/// The source of the rows with the net laid over them, and which has the rows without it as its base.
+fn source_of<'a>(alloc: Global, schema: &'a Schema, own: &WriteSet) -> Result<Counted<'a>, Fail>
+    ensures schema { IfOk result (λ source. source.list.tables ≡ schema.entry.now) }
+    ensures rows { IfOk result (λ source. AreRowsOf schema.entry.now source.list.rows) }
+    ensures laid { IfOk result (λ source. source.list.rows ≡ overlay source.list.base own.now) }
+{
+    let laid = laid(alloc, rows_of(alloc, schema, ROWS)?, own)?;
+    if !are_rows(alloc, schema, laid.rows.as_slice())? {
+        return Err("a net of other rows".into());
+    }
+    Ok(Counted {
+        list: ListSource::over(schema, laid.rows, laid.base),
+        count: Cell::new(0),
+    })
+}
+
 fn first_wrong_on<L: Ledger>(
     alloc: Global,
+    net: String,
     lines: String,
     blank: Blank,
 ) -> Result<Option<String>, Fail>
@@ -66,22 +89,25 @@ fn first_wrong_on<L: Ledger>(
     requires some { 0 < L.parts }
 {
     let schema = schema_of(alloc, TABLES)?;
-    let list = ListSource::new(&schema, rows_of(alloc, &schema, ROWS)?);
-    let source = Counted {
-        list,
-        count: Cell::new(0),
-    };
+    let own = net_of(alloc, &schema, net.as_str())?;
+    let source = source_of(alloc, &schema, &own)?;
     let mut steps: Steps<L> = Steps::new(blank);
     for line in lines.lines() {
-        if let Some(wrong) = wrong(alloc, &schema, &source, line, &mut steps)? {
+        if let Some(wrong) = wrong(alloc, &schema, &source, &own, line, &mut steps)? {
             return Ok(Some(wrong));
         }
     }
     Ok(None)
 }
 
-/// The first line whose query isn't answered as it says. Each line has a query, an arrow, how many rows it is handed,
-/// and its lines or its fault.
+/// The first line whose statement isn't answered as it says. Each line has a statement, an arrow, how many rows it is
+/// handed, and its lines or its fault.
 pub fn first_wrong(alloc: Global, lines: &str) -> Result<Option<String>, Fail> {
-    first_wrong_on::<Brand>(alloc, String::from_str(alloc, lines)?, Blank::new(1))
+    first_wrong_behind(alloc, "", lines)
+}
+
+/// The same behind a net.
+pub fn first_wrong_behind(alloc: Global, net: &str, lines: &str) -> Result<Option<String>, Fail> {
+    let net = String::from_str(alloc, net)?;
+    first_wrong_on::<Brand>(alloc, net, String::from_str(alloc, lines)?, Blank::new(1))
 }

@@ -1,8 +1,9 @@
-//! Tests of queries over a source of rows: which lines and faults they are answered, in which order, and how many rows
-//! are handed out for each.
+//! Tests of queries and of what writes over a source of rows: which lines and faults they are answered, in which order,
+//! how many rows are handed out for each, and what the transaction's net is behind them.
 //!
-//! They use only what the crates below offer: texts are parsed and bound to a schema, and answered over a list of rows.
-//! What is wanted is worked by hand from the rules of values, of conditions and of plans.
+//! They use only what the crates below offer: texts are parsed and bound to a schema, and answered over a list of rows
+//! with a net laid over them. What is wanted is worked by hand from the rules of values, of conditions, of plans and of
+//! nets.
 #![tactic(auto)]
 
 #[cfg(test)]
@@ -14,7 +15,15 @@ mod checking;
 #[cfg(test)]
 mod counted;
 #[cfg(test)]
+mod deletes;
+#[cfg(test)]
 mod faults;
+#[cfg(test)]
+mod laying;
+#[cfg(test)]
+mod locks;
+#[cfg(test)]
+mod nets;
 #[cfg(test)]
 mod plain;
 #[cfg(test)]

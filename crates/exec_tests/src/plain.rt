@@ -90,6 +90,15 @@ SELECT name, name < 'c', NOT good FROM cust => 3: ('ann', TRUE, FALSE) ('bob', T
 SELECT -9223372036854775807 - 1 FROM acc WHERE id = 1 => 1: (-9223372036854775808)
 SELECT a.id, amount AS id FROM acc AS a WHERE a.id = 1 => 1: (1, 10)";
 
+/// LIMIT leaves the first lines, and spares nothing before them.
+const LIMITS: &str = "\
+SELECT id FROM acc LIMIT 2 => 5: (1) (2)
+SELECT id FROM acc LIMIT 0 => 5:
+SELECT id FROM acc LIMIT 9 => 5: (1) (2) (3) (5) (8)
+SELECT id FROM acc WHERE owner = 7 LIMIT 1 => 2: (1)
+SELECT id FROM acc WHERE 10 / amount > 0 LIMIT 1 => 5: DivideByZero
+SELECT 10 / amount FROM acc LIMIT 1 => 5: DivideByZero";
+
 #[test]
 fn points_hand_out_one_row(rt: HostRuntime) -> Result<(), Fail> {
     assert_eq!(rt; first_wrong(rt.alloc(), POINTS)?, None);
@@ -117,5 +126,11 @@ fn other_queries_are_handed_all_rows(rt: HostRuntime) -> Result<(), Fail> {
 #[test]
 fn lines_have_the_values_of_their_items(rt: HostRuntime) -> Result<(), Fail> {
     assert_eq!(rt; first_wrong(rt.alloc(), ITEMS)?, None);
+    Ok(())
+}
+
+#[test]
+fn limit_leaves_the_first_lines(rt: HostRuntime) -> Result<(), Fail> {
+    assert_eq!(rt; first_wrong(rt.alloc(), LIMITS)?, None);
     Ok(())
 }

@@ -6,14 +6,14 @@ ghost use Rattle.row_source.specs.Sources.{AreRowsOf, Fits};
 ghost use Rattle.write_set.specs.Sets.{Rises};
 
 use crate::cells::cells_of;
-use geo_base::{RowId, RowImage};
+use geo_base::{NoMemory, RowId, RowImage};
 use geo_schema::Schema;
 use row_source::RowImageAt;
 use std::alloc::Global;
 use std::test::Fail;
 
 /// The row of the line, whose name is made of its cells.
-fn row_of(alloc: Global, schema: &Schema, line: &str) -> Result<RowImageAt, Fail>
+pub fn row_of(alloc: Global, schema: &Schema, line: &str) -> Result<RowImageAt, Fail>
     ensures { IfOk result (λ at. Fits schema.now (entry_of at)) }
 {
     let (table, cells) = line.split_once(": ").ok_or("a row without cells")?;
@@ -60,4 +60,34 @@ pub fn rows_of(alloc: Global, schema: &Schema, text: &str) -> Result<Vec<RowImag
     } else {
         Err("rows that don't rise".into())
     }
+}
+
+/// Whether the row is one of its table, and its key that of its cells.
+fn fits(alloc: Global, schema: &Schema, at: &RowImageAt) -> Result<bool, NoMemory>
+    ensures { IfOk result (λ b. IsTrue b → Fits schema.now (entry_of at.now)) }
+{
+    let table = at.row.table;
+    if !schema.has_table(table) || schema.check_row(table, at.image.cells()).is_err() {
+        return Ok(false);
+    }
+    let key = schema.key_of(alloc, table, &at.image)?;
+    Ok(key == at.row.key)
+}
+
+fn all_fit(alloc: Global, schema: &Schema, rows: &[RowImageAt]) -> Result<bool, NoMemory>
+    ensures { IfOk result (λ b. IsTrue b → All (Fits schema.now) (table_of rows.now)) }
+{
+    for at in rows {
+        if !fits(alloc, schema, at)? {
+            return Ok(false);
+        }
+    }
+    Ok(true)
+}
+
+/// Whether they are rows of the schema's tables, each once and in rising order.
+pub fn are_rows(alloc: Global, schema: &Schema, rows: &[RowImageAt]) -> Result<bool, NoMemory>
+    ensures { IfOk result (λ b. IsTrue b → AreRowsOf schema.now (table_of rows.now)) }
+{
+    Ok(are_rising(rows) && all_fit(alloc, schema, rows)?)
 }

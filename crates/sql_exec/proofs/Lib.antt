@@ -1,6 +1,15 @@
 mod Alone
 mod Binding
+mod Changed
 mod Kept
 mod Reached
+mod Shown
 mod Plain
 mod Planned
+mod Entries
+mod Touched
+mod Handed
+mod ByPlan
+mod Locking
+mod Locks
+mod Removed

@@ -1,9 +1,9 @@
--- What a query of one table answers that isn't grouped, sorted or cut: the lines of the rows that its tests keep.
-use Rattle.std.proofs.Common.{◌≡◌, ℕ, Bool, true, false, if◌then◌else◌, None, Result, Ok, Err, List, [], ◌∷◌, ◌++◌, map, refl, ap, subst, ◌∙◌}
-use Rattle.std.proofs.lemmas.List.{append-nil, length-map, map-append}
+-- What a query of one table answers that isn't grouped or sorted: the lines of the rows that its tests keep.
+use Rattle.std.proofs.Common.{◌≡◌, ℕ, Bool, true, false, if◌then◌else◌, Option, None, Some, Result, Ok, Err, List, [], ◌∷◌, ◌++◌, map, refl, sym, ap, subst, ◌∙◌}
+use Rattle.std.proofs.lemmas.List.{append-nil, length-map, map-append, take-map}
 use Rattle.geo_base.specs.Results.{◌>>=◌}
 use Rattle.geo_base.specs.declared.cell.Cell.{Cell}
-use Rattle.group_exec.specs.Results.{LineOfRow, grouped_of, ordered, plain_cell, put_in, row_line, within_limit}
+use Rattle.group_exec.specs.Results.{LineOfRow, cut, grouped_of, ordered, plain_cell, put_in, row_line, within_limit}
 use Rattle.row_source.specs.Matches.{alone, in_statement, kept_of, matches_of, pair_cells}
 use Rattle.row_source.specs.Sources.{images, of_table}
 use Rattle.row_source.specs.declared.fault.ExecFault.{ExecFault}
@@ -13,7 +13,7 @@ use Rattle.sql_bind.specs.declared.bound.BoundSelect.{BoundSelect}
 use Rattle.sql_bind.specs.declared.bound.Item.{Item}
 use Rattle.sql_exec.proofs.Binding.{both_behind, same_behind}
 use Rattle.sql_exec.specs.Answers.{answer_of}
-use Rattle.sql_exec.specs.inner.Plain.{kept_rows, line_over, lines_over, unless_too_long}
+use Rattle.sql_exec.specs.inner.Plain.{kept_rows, limited_lines, line_over, lines_over, unless_too_long}
 use Rattle.sql_expr.specs.Conditions.{kept}
 use Rattle.sql_expr.specs.declared.expr.Expr.{Expr}
 use Rattle.write_set.specs.Overlay.{Table}
@@ -82,20 +82,25 @@ unordered : (lines : List LineOfRow) → ordered [] lines ≡ lines
 unordered [] = refl
 unordered (l ∷ lines) = ap (put_in [] l) (unordered lines) ∙ stays l lines
 
--- without LIMIT too
-short_enough : (lines : List LineOfRow) → within_limit (ordered [] lines) ≡ unless_too_long (map (λ l. l.line) lines)
-short_enough lines = rw (unordered lines, length-map lines (λ (l : LineOfRow). l.line)) refl
+-- LIMIT leaves the first lines, whatever is known besides of each
+first_lines : {A B : Type 0} (f : A → B) (limit : Option ℕ) (lines : List A) → map f (cut limit lines) ≡ cut limit (map f lines)
+first_lines f None lines = refl
+first_lines f (Some limit) lines = sym (take-map f limit lines)
+
+short_enough : (limit : Option ℕ) (lines : List LineOfRow) → within_limit (cut limit (ordered [] lines)) ≡ unless_too_long (cut limit (map (λ l. l.line) lines))
+short_enough limit lines =
+    rw (unordered lines, sym (first_lines (λ (l : LineOfRow). l.line) limit lines), length-map (cut limit lines) (λ (l : LineOfRow). l.line)) refl
 
 -- ---- the whole
 
-pub plain_lines : (query : BoundSelect) (rows : Rows) → query.grouped ≡ false → query.order ≡ [] → query.limit ≡ None →
-    grouped_of query rows ≡ (lines_over query.items rows >>= unless_too_long)
-unfolding grouped_of lines_over
-plain_lines query rows ungrouped no_order no_limit =
-    rw (ungrouped, no_order, no_limit)
-    (same_behind (each (row_line query.items) rows) (λ lines. within_limit (ordered [] lines)) (λ lines. unless_too_long (map (λ l. l.line) lines)) short_enough
-    ∙ both_behind (each (row_line query.items) rows) (map (λ l. l.line)) unless_too_long
-    ∙ ap (λ (lines : Answer). lines >>= unless_too_long) (same_lines query.items rows []))
+pub plain_lines : (query : BoundSelect) (rows : Rows) → query.grouped ≡ false → query.order ≡ [] → grouped_of query rows ≡ limited_lines query.items query.limit rows
+unfolding grouped_of limited_lines lines_over
+plain_lines query rows ungrouped no_order =
+    rw (ungrouped, no_order)
+    (same_behind (each (row_line query.items) rows) (λ lines. within_limit (cut query.limit (ordered [] lines)))
+    (λ lines. unless_too_long (cut query.limit (map (λ l. l.line) lines))) (short_enough query.limit)
+    ∙ both_behind (each (row_line query.items) rows) (map (λ l. l.line)) (λ lines. unless_too_long (cut query.limit lines))
+    ∙ ap (λ (lines : Answer). lines >>= λ some. unless_too_long (cut query.limit some)) (same_lines query.items rows []))
 
 -- the pairs of one table are made to lines as its rows are
 pub alone_same : (query : BoundSelect) (number : ℕ) (rows : Table) → query.tables ≡ number ∷ [] →

@@ -1,5 +1,5 @@
 -- A query answers by a plan what it answers without one: the rows that the plan leaves out are dropped by the tests.
-use Rattle.std.proofs.Common.{◌≡◌, ℕ, Bool, true, false, ◌&&◌, if◌then◌else◌, nat_eq, None, Result, Ok, List, [], ◌∷◌, length, get_or, refl, sym, ap, subst, ◌∙◌, arith}
+use Rattle.std.proofs.Common.{◌≡◌, ℕ, Bool, true, false, ◌&&◌, if◌then◌else◌, nat_eq, Result, Ok, List, [], ◌∷◌, length, get_or, refl, sym, ap, subst, ◌∙◌, arith}
 use Rattle.std.specs.List.{Contains, filter}
 use Rattle.std.proofs.lemmas.Bool.{both_ways, eq-eqb, eqb-true}
 use Rattle.std.proofs.lemmas.List.Elements.{Contains-append_left, Contains-append_right, Contains-push}
@@ -19,7 +19,7 @@ use Rattle.sql_bind.specs.declared.bound.BoundSelect.{BoundSelect}
 use Rattle.sql_exec.proofs.Binding.{same_again, same_behind}
 use Rattle.sql_exec.proofs.Plain.{alone_same, plain_lines}
 use Rattle.sql_exec.specs.Answers.{answer_of}
-use Rattle.sql_exec.specs.inner.Plain.{kept_rows, lines_over, plain_answer, unless_too_long}
+use Rattle.sql_exec.specs.inner.Plain.{kept_rows, limited_lines, plain_answer}
 use Rattle.sql_expr.specs.Conditions.{kept}
 use Rattle.sql_expr.specs.declared.expr.Expr.{Expr}
 use Rattle.write_set.specs.Overlay.{Table}
@@ -47,10 +47,10 @@ of_its_table tables number access.Scan entry is = is
 abbrev in_front : List Expr → List Cell → Answer → Answer
 in_front tests row rest = in_statement (kept row tests) >>= λ passes. rest >>= λ more. Ok (if passes then row ∷ more else more)
 
-head : (a : Entry) (rows : Table) → Contains (a ∷ rows) a
+pub head : (a : Entry) (rows : Table) → Contains (a ∷ rows) a
 head a rows = Contains-append_left (a ∷ []) rows a (Contains-push [] a)
 
-behind : (a : Entry) (rows : Table) (b : Entry) → Contains rows b → Contains (a ∷ rows) b
+pub behind : (a : Entry) (rows : Table) (b : Entry) → Contains rows b → Contains (a ∷ rows) b
 behind a rows b there = Contains-append_right (a ∷ []) rows b there
 
 module _ (tests : List Expr) (p q : Entry → Bool) where
@@ -62,7 +62,7 @@ module _ (tests : List Expr) (p q : Entry → Bool) where
   abbrev DropsOthers : Table → Type 0
   DropsOthers rows = (a : Entry) → Contains rows a → q a ≡ true → p a ≡ false → kept a.1 tests ≡ Ok false
 
-  pub same_kept : (rows : Table) → IsWithin rows → DropsOthers rows → kept_rows tests (images (filter p rows)) ≡ kept_rows tests (images (filter q rows))
+  same_kept : (rows : Table) → IsWithin rows → DropsOthers rows → kept_rows tests (images (filter p rows)) ≡ kept_rows tests (images (filter q rows))
   unfolding kept_rows
   same_kept [] within drops = refl
   same_kept (a ∷ rows) within drops =
@@ -86,7 +86,7 @@ the_table (table ∷ []) d one = refl
 the_table (table ∷ other ∷ more) d one = absurd (omega (arith, one))
 
 -- what the plan leaves out of one table
-pub left_out : (tables : Tables) (numbers : List ℕ) (number : ℕ) (plan : Plan) (rows : Table) (tests : List Expr) → numbers ≡ number ∷ [] →
+left_out : (tables : Tables) (numbers : List ℕ) (number : ℕ) (plan : Plan) (rows : Table) (tests : List Expr) → numbers ≡ number ∷ [] →
     LeavesOut tables numbers plan rows (λ cells. kept cells tests ≡ Ok false) →
     (a : Entry) → Contains rows a → nat_eq a.0.table number ≡ true → reaches tables number plan.first a ≡ false → kept a.1 tests ≡ Ok false
 left_out tables numbers number plan rows tests is leaves a there here missed =
@@ -94,16 +94,22 @@ left_out tables numbers number plan rows tests is leaves a there here missed =
     subst (λ (n : List ℕ). LeavesOut tables n plan rows (λ cells. kept cells tests ≡ Ok false)) is leaves in
     one a there (eqb-true a.0.table number here) missed
 
-pub planned : (tables : Tables) (query : BoundSelect) (plan : Plan) (number : ℕ) (rows : Table) →
-    query.tables ≡ number ∷ [] → query.grouped ≡ false → query.order ≡ [] → query.limit ≡ None →
-    LeavesOut tables query.tables plan rows (λ cells. kept cells query.tests ≡ Ok false) →
-    answer_of query rows ≡ plain_answer query.items query.tests (images (filter (reaches tables number plan.first) rows))
-unfolding plain_answer
-planned tables query plan number rows is ungrouped no_order no_limit leaves =
-    alone_same query number rows is
-    ∙ same_behind (kept_rows query.tests (images (of_table number rows))) _ (λ some. lines_over query.items some >>= unless_too_long)
-    (λ some. plain_lines query some ungrouped no_order no_limit)
-    ∙ ap (λ (r : Answer). r >>= λ some. lines_over query.items some >>= unless_too_long)
-    (sym (same_kept query.tests (reaches tables number plan.first) (λ entry. nat_eq entry.0.table number) rows
+-- the tests keep of the rows that the plan hands out what they keep of all rows of the table
+pub handed_kept : (tables : Tables) (numbers : List ℕ) (number : ℕ) (plan : Plan) (rows : Table) (tests : List Expr) → numbers ≡ number ∷ [] →
+    LeavesOut tables numbers plan rows (λ cells. kept cells tests ≡ Ok false) →
+    kept_rows tests (images (filter (reaches tables number plan.first) rows)) ≡ kept_rows tests (images (of_table number rows))
+handed_kept tables numbers number plan rows tests is leaves =
+    same_kept tests (reaches tables number plan.first) (λ entry. nat_eq entry.0.table number) rows
     (λ a there reached. of_its_table tables number plan.first a reached)
-    (left_out tables query.tables number plan rows query.tests is leaves)))
+    (left_out tables numbers number plan rows tests is leaves)
+
+pub planned : (tables : Tables) (query : BoundSelect) (plan : Plan) (number : ℕ) (rows : Table) →
+    query.tables ≡ number ∷ [] → query.grouped ≡ false → query.order ≡ [] →
+    LeavesOut tables query.tables plan rows (λ cells. kept cells query.tests ≡ Ok false) →
+    answer_of query rows ≡ plain_answer query.items query.limit query.tests (images (filter (reaches tables number plan.first) rows))
+unfolding plain_answer
+planned tables query plan number rows is ungrouped no_order leaves =
+    alone_same query number rows is
+    ∙ same_behind (kept_rows query.tests (images (of_table number rows))) _ (limited_lines query.items query.limit)
+    (λ some. plain_lines query some ungrouped no_order)
+    ∙ ap (λ (r : Answer). r >>= limited_lines query.items query.limit) (sym (handed_kept tables query.tables number plan rows query.tests is leaves))

@@ -26,7 +26,7 @@ use Rattle.sql_bind.specs.declared.bound.ExprRow.{ExprRow}
 use Rattle.sql_bind.specs.declared.bound.SetTo.{SetTo}
 use Rattle.sql_bind.specs.Steps.{each, each_behind}
 use Rattle.sql_exec.specs.declared.effect.Effect.{Effect}
-use Rattle.sql_exec.specs.declared.lock.Locked.{Locked}
+use Rattle.sql_exec.specs.declared.for_update.Locked.{Locked}
 use Rattle.sql_exec.specs.Answers.{answer_of}
 use Rattle.sql_expr.specs.Conditions.{kept}
 use Rattle.sql_expr.specs.declared.expr.Expr.{Expr}

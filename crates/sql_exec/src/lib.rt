@@ -4,24 +4,31 @@
 //! writes does to them: plain programs over lists, in which there are no plans. `select` answers the former by
 //! the plan that is chosen for the query, and `select_by` by any plan that leaves out only what the conditions
 //! drop: its lines or its first fault. Neither is handed more rows than the plan reaches. They take queries of
-//! one table without groups, order and limit. What writes is defined, and its bodies are to come.
+//! one table without groups and order. `lock` answers such a query and touches the rows that it keeps, and `delete`
+//! removes rows. What INSERT and UPDATE do is defined, and their bodies are to come.
 //!
 //! `specs/Changes.antt` says what holds of the changes of a statement that writes. Laws say that it holds of each,
 //! and that rows of a schema stay such rows under these changes.
 #![tactic(auto)]
 
+mod choosing;
+mod deleting;
 mod effect;
+mod for_update;
 mod keeping;
 mod laws;
 mod lines;
-mod lock;
+mod naming;
+mod netting;
 mod queries;
 mod reaching;
+mod touching;
 
+pub use deleting::delete;
 pub use effect::Effect;
+pub use for_update::{LineList, Locked, lock};
 pub use laws::{
     deleted_rows_are_there, fitting_is_the_rule_of_rows, inserted_rows_fit, rows_stay_rows,
     touched_rows_are_there, updated_rows_fit,
 };
-pub use lock::{LineList, Locked};
 pub use queries::{select, select_by};

@@ -1,5 +1,5 @@
 //! Queries.
-ghost use Rattle.std.specs.Prelude.{◌≡◌, ◌+◌, ◌≤◌, false, None, [], Ok, length, map};
+ghost use Rattle.std.specs.Prelude.{◌≡◌, ◌+◌, ◌≤◌, false, [], Ok, length, map};
 ghost use Rattle.geo_base.specs.Results.{Gives};
 ghost use Rattle.geo_base.specs.declared.limits.TheConstants.{MAX_LINE_CELLS};
 ghost use Rattle.row_source.specs.Bounds.{steps_of};
@@ -12,9 +12,9 @@ ghost use Rattle.sql_exec.specs.inner.Plain.{plain_answer};
 ghost use Rattle.sql_expr.specs.Conditions.{kept};
 ghost use Rattle.sql_plan.specs.Plans as plans;
 
+use crate::for_update::LineList;
 use crate::keeping::kept_rows;
-use crate::lines::{lines_over, unless_too_long};
-use crate::lock::LineList;
+use crate::lines::limited_lines;
 use crate::reaching::reached_rows;
 use geo_base::RowImage;
 use geo_schema::Schema;
@@ -24,7 +24,7 @@ use sql_plan::{plan_of, tests_drop_what_plans_leave_out};
 use std::alloc::Global;
 use std::sync::ledger::Ledger;
 
-/// The lines of those of the rows that the tests of a query keep.
+/// The lines of those of the rows that the tests of a query keep, as many as its LIMIT leaves.
 #[tactic(auto, unfolding(crate::specs::inner::Plain::plain_answer))]
 fn plain_answer(
     alloc: Global,
@@ -33,18 +33,17 @@ fn plain_answer(
 ) -> Result<LineList, ExecFault>
     requires some { 1 ≤ length query.now.items }
     requires few { length query.now.items ≤ MAX_LINE_CELLS }
-    ensures { Gives fault.NoMemory (λ l. l) result (plain_answer query.now.items query.now.tests (map (λ row. row.now) rows.now)) }
+    ensures { Gives fault.NoMemory (λ l. l) result (plain_answer query.now.items query.now.limit query.now.tests (map (λ row. row.now) rows.now)) }
 {
     let kept = kept_rows(alloc, query.tests.items(), rows)?;
-    let lines = lines_over(alloc, query.items.items(), kept.as_slice())?;
-    unless_too_long(lines)
+    limited_lines(alloc, query.items.items(), query.limit, kept.as_slice())
 }
 
-/// What a query of one table without groups, order and limit answers by a plan that leaves out only rows that its
-/// tests drop: its lines in the order of keys, or its first fault. The rows that the plan hands out are tested
-/// first, one after another; then their lines are made; and then more than [`group_exec::limits::MAX_LINES`] of
-/// them are [`ExecFault::ResultTooLong`]. The cost is what the source takes to hand the rows out, and a step for
-/// each of them and each test, item and cell of a line; a text is copied only into a line.
+/// What a query of one table without groups and order answers by a plan that leaves out only rows that its tests drop:
+/// its lines in the order of keys, or its first fault. The rows that the plan hands out are tested first, one after
+/// another; then all their lines are made; then LIMIT leaves the first ones; and then more than
+/// [`group_exec::limits::MAX_LINES`] of them are [`ExecFault::ResultTooLong`]. The cost is what the source takes to hand
+/// the rows out, and a step for each of them and each test, item and cell of a line; a text is copied only into a line.
 pub fn select_by<R: RowSource, L: Ledger>(
     alloc: Global,
     query: &BoundSelect,
@@ -56,7 +55,6 @@ pub fn select_by<R: RowSource, L: Ledger>(
     requires one { length query.now.tables ≡ 1 }
     requires ungrouped { query.now.grouped ≡ false }
     requires unordered { query.now.order ≡ [] }
-    requires uncut { query.now.limit ≡ None }
     requires fits { IsPlanFor (R.tables source.now) query.now.tables plan }
     requires leaves_out { LeavesOut (R.tables source.now) query.now.tables plan (R.rows source.now) (λ cells. kept cells query.now.tests ≡ Ok false) }
     ensures answer { Gives fault.NoMemory (λ l. l) result (answer_of query.now (R.rows source.now)) }
@@ -67,9 +65,9 @@ pub fn select_by<R: RowSource, L: Ledger>(
     plain_answer(alloc, query, rows.as_slice())
 }
 
-/// What a query of one table without groups, order and limit answers: its lines in the order of keys, or its first
-/// fault. It is handed no more rows than the plan that is chosen for it reaches. The cost is that of the choice, which
-/// takes some steps for each test and each column of a key or an index, and then that of [`select_by`].
+/// What a query of one table without groups and order answers: its lines in the order of keys, or its first fault. It is
+/// handed no more rows than the plan that is chosen for it reaches, and LIMIT spares none of them. The cost is that of
+/// the choice, which takes some steps for each test and each column of a key or an index, and then that of [`select_by`].
 pub fn select<R: RowSource, L: Ledger>(
     alloc: Global,
     query: &BoundSelect,
@@ -81,7 +79,6 @@ pub fn select<R: RowSource, L: Ledger>(
     requires one { length query.now.tables ≡ 1 }
     requires ungrouped { query.now.grouped ≡ false }
     requires unordered { query.now.order ≡ [] }
-    requires uncut { query.now.limit ≡ None }
     requires schema { R.tables source.now ≡ schema.now }
     requires rows { AreRowsOf schema.now (R.rows source.now) }
     ensures answer { Gives fault.NoMemory (λ l. l) result (answer_of query.now (R.rows source.now)) }

@@ -20,8 +20,8 @@ returns-clause-answer g c =
     let one : query.tables ≡ number ∷ [] = sym c.items.ensures ∙ the_table c.items.result.now 0 (ap length c.items.ensures ∙ c.requires.one) in
     let handed : map (λ row. row.now) c.as_slice.result.now ≡ images (filter (reaches tables number c.args.plan.first) rows) =
     rw c.as_slice.ensures.value c.in_ok-rows.ensures.rows in
-    let same : answer_of query rows ≡ plain_answer query.items query.tests (map (λ row. row.now) c.as_slice.result.now) =
-    planned tables query c.args.plan number rows one c.requires.ungrouped c.requires.unordered c.requires.uncut c.requires.leaves_out
-    ∙ ap (plain_answer query.items query.tests) (sym handed) in
+    let same : answer_of query rows ≡ plain_answer query.items query.limit query.tests (map (λ row. row.now) c.as_slice.result.now) =
+    planned tables query c.args.plan number rows one c.requires.ungrouped c.requires.unordered c.requires.leaves_out
+    ∙ ap (plain_answer query.items query.limit query.tests) (sym handed) in
     subst (λ (answer : Result (List (List Cell)) ExecFault). Gives fault.NoMemory (λ (lines : List (List Cell)). lines) c.plain_answer.result answer)
     (sym same) c.plain_answer.ensures

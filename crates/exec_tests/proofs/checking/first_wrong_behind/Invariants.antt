@@ -1,4 +1,4 @@
-use Rattle.exec_tests.proofs.checking.first_wrong.Given as goal
+use Rattle.exec_tests.proofs.checking.first_wrong_behind.Given as goal
 
 -- the ledger of the blank that is handed on
 abbrev pub ghosts-first_wrong_on : goal.ghosts-first_wrong_on

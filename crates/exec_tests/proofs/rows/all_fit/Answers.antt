@@ -1,0 +1,9 @@
+use Rattle.exec_tests.proofs.Fitting.{no_further, one_further}
+use Rattle.exec_tests.proofs.rows.all_fit.Goals as goal
+
+pub loop-at-preserved : goal.loop-at-preserved
+loop-at-preserved c =
+    one_further c.args.schema.now c.args.rows.now c.loop-at.at-index c.at-item.result.now _ c.loop-at-test.true c.at-item.is c.in_ok-fits.ensures c.if-fits.true c.loop-at.invariant
+
+pub returns : goal.returns
+returns c = λ yes. no_further c.args.schema.now c.args.rows.now c.loop-at.at-index c.loop-at-test.false c.loop-at.invariant

@@ -1,0 +1,97 @@
+//! Queries that lock.
+ghost use Rattle.std.specs.Prelude.{◌≡◌, ◌+◌, ◌≤◌, ◌⊎◌, [], length, map, IfOk, IfErr};
+ghost use Rattle.geo_base.specs.declared.limits.TheConstants.{MAX_LINE_CELLS};
+ghost use Rattle.geo_schema.specs.Schemas.{IsTableNo};
+ghost use Rattle.row_source.specs.Bounds.{steps_of};
+ghost use Rattle.row_source.specs.Sources.{AreRowsOf};
+ghost use Rattle.row_source.specs.declared.fault.ExecFault.TheVariants as fault;
+ghost use Rattle.sql_bind.specs.Sound.{IsSoundLock};
+ghost use Rattle.sql_exec.specs.Effects.{IsLocked, IsRefused, lock_changes, touches_in};
+ghost use Rattle.sql_exec.specs.inner.Handed.{AreHanded};
+ghost use Rattle.sql_exec.specs.inner.Touching.{locked_rows};
+ghost use Rattle.sql_plan.specs.Plans as plans;
+ghost use Rattle.write_set.specs.Overlay.{overlay};
+
+use crate::choosing::chosen_rows;
+use crate::keeping::kept_rows;
+use crate::lines::limited_lines;
+use crate::netting::net_after;
+use crate::touching::touches_of;
+use geo_base::{Line, Many, RowImage, TableNo};
+use geo_schema::Schema;
+use row_source::{ExecFault, RowSource, Steps};
+use sql_bind::BoundSelect;
+use sql_plan::tests_drop_what_plans_leave_out;
+use std::alloc::Global;
+use std::sync::ledger::Ledger;
+use write_set::WriteSet;
+
+/// Lines of an answer.
+pub type LineList = Many<Line>;
+
+/// What a query with FOR UPDATE has done.
+#[derive(Debug, Drop)]
+pub struct Locked {
+    /// What the query answers.
+    pub lines: LineList,
+    /// The transaction's net write set after it.
+    pub own: WriteSet,
+}
+
+/// What a query that locks does to the rows that are handed out: it answers the lines of those that its tests keep, and
+/// touches those of them that the net lacks.
+fn lock_rows<R: RowSource>(
+    alloc: Global,
+    query: &BoundSelect,
+    source: &R,
+    own: &WriteSet,
+    schema: &Schema,
+    table: TableNo,
+    rows: &[&RowImage],
+) -> Result<Locked, ExecFault>
+    requires some { 1 ≤ length query.now.items }
+    requires few { length query.now.items ≤ MAX_LINE_CELLS }
+    requires table { IsTableNo schema.now table }
+    requires laid { R.rows source.now ≡ overlay (R.base source.now) own.now }
+    requires handed { AreHanded schema.now table (R.rows source.now) (map (λ row. row.now) rows.now) }
+    ensures locked { IfOk result (IsLocked own.now (locked_rows schema.now (R.base source.now) own.now query.now table (map (λ row. row.now) rows.now))) }
+    ensures refused { IfErr result (λ e. (e ≡ fault.NoMemory) ⊎ IsRefused own.now (touches_in (locked_rows schema.now (R.base source.now) own.now query.now table (map (λ row. row.now) rows.now))) e) }
+{
+    let changes = own.changes();
+    let kept = kept_rows(alloc, query.tests.items(), rows)?;
+    let lines = limited_lines(alloc, query.items.items(), query.limit, kept.as_slice())?;
+    let touches = touches_of(alloc, schema, source, own, table, kept.as_slice())?;
+    let own = net_after(alloc, own, touches)?;
+    Ok(Locked { lines, own })
+}
+
+/// What a query with FOR UPDATE does, of one table and without order: it answers its lines in the order of keys, and the
+/// transaction's net `own` gains a touch of each row that its conditions keep, past LIMIT too, and that the net lacks. The
+/// rows of the source are those of its base with the net laid over them.
+///
+/// Where a condition or an item has a fault, the first one is the answer, and else [`ExecFault::TooManyRows`] or
+/// [`ExecFault::TooLarge`] where the net after the touches breaks that limit. It is handed no more rows than the plan that
+/// is chosen for it reaches. Beside what [`crate::select`] takes the cost is a search by halving in the net, and one in
+/// the base, for each row that is kept, and a pass over the net.
+pub fn lock<R: RowSource, L: Ledger>(
+    alloc: Global,
+    query: &BoundSelect,
+    source: &R,
+    own: &WriteSet,
+    schema: &Schema,
+    steps: &mut Steps<L>,
+) -> Result<Locked, ExecFault>
+    requires query { IsSoundLock schema.now query.now }
+    requires unordered { query.now.order ≡ [] }
+    requires schema { R.tables source.now ≡ schema.now }
+    requires rows { AreRowsOf schema.now (R.rows source.now) }
+    requires laid { R.rows source.now ≡ overlay (R.base source.now) own.now }
+    ensures locked { IfOk result (IsLocked own.now (lock_changes query.now (R.base source.now) own.now)) }
+    ensures refused { IfErr result (λ e. (e ≡ fault.NoMemory) ⊎ IsRefused own.now (touches_in (lock_changes query.now (R.base source.now) own.now)) e) }
+    ensures steps { steps.new ≤ steps.old + steps_of schema.now query.now.tables (plans.plan_of schema.now query.now.tables query.now.tests) (R.rows source.now) }
+{
+    tests_drop_what_plans_leave_out();
+    let table = query.tables.items()[0];
+    let rows = chosen_rows(alloc, source, schema, table, &query.tests, steps)?;
+    lock_rows(alloc, query, source, own, schema, table, rows.as_slice())
+}
