@@ -164,13 +164,11 @@ fn print_fault(out: &mut String, fault: &BindFault) -> Result<(), NoMemory> {
     }
 }
 
-fn print_answer(out: &mut String, answer: Result<Bound, BindFault>) -> Result<(), NoMemory> {
-    match &answer {
-        Ok(bound) => print_bound(out, bound)?,
-        Err(fault) => print_fault(out, fault)?,
+fn print_answer(out: &mut String, answer: &Result<Bound, BindFault>) -> Result<(), NoMemory> {
+    match answer {
+        Ok(bound) => print_bound(out, bound),
+        Err(fault) => print_fault(out, fault),
     }
-    drop(answer);
-    Ok(())
 }
 
 /// Whether the statement is one that is bound.
@@ -184,6 +182,22 @@ fn is_of_tables(statement: &Statement) -> bool
     }
 }
 
+/// Puts what binding the statement answers at the end.
+fn print_binding(
+    alloc: Global,
+    schema: &Schema,
+    out: &mut String,
+    statement: &Statement,
+) -> Result<(), NoMemory> {
+    if !is_of_tables(statement) {
+        return Ok(());
+    }
+    let answer = bind(alloc, statement, schema);
+    let printed = print_answer(out, &answer);
+    drop(answer);
+    printed
+}
+
 /// What binding the statement of the text answers, as a text.
 pub fn answer(alloc: Global, schema: &Schema, text: &str) -> Result<String, Fail> {
     let mut out = String::new(alloc);
@@ -191,9 +205,8 @@ pub fn answer(alloc: Global, schema: &Schema, text: &str) -> Result<String, Fail
         return Ok(out);
     }
     let statement = parse(alloc, text)?;
-    if is_of_tables(&statement) {
-        print_answer(&mut out, bind(alloc, &statement, schema))?;
-    }
+    let printed = print_binding(alloc, schema, &mut out, &statement);
     drop(statement);
+    printed?;
     Ok(out)
 }

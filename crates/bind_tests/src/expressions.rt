@@ -23,6 +23,17 @@ fn test_text(test: Test) -> &'static str {
     }
 }
 
+/// What stands between the two operands of an operator, and nothing where there are none.
+fn word_between(expr: &Expr) -> &'static str {
+    match expr {
+        Expr::Arith(op, _, _) => op_text(*op),
+        Expr::Cmp(test, _, _) => test_text(*test),
+        Expr::And(_, _) => " AND ",
+        Expr::Or(_, _) => " OR ",
+        _ => "",
+    }
+}
+
 /// Puts the text of the expression at the end.
 pub fn print_expression(out: &mut String, expr: &Expr) -> Result<(), NoMemory> {
     match expr {
@@ -36,31 +47,10 @@ pub fn print_expression(out: &mut String, expr: &Expr) -> Result<(), NoMemory> {
             out.push_str("NOT ")?;
             print_expression(out, a.get())
         }
-        Expr::Arith(op, a, b) => {
+        Expr::Arith(_, a, b) | Expr::Cmp(_, a, b) | Expr::And(a, b) | Expr::Or(a, b) => {
             out.push_str("(")?;
             print_expression(out, a.get())?;
-            out.push_str(op_text(*op))?;
-            print_expression(out, b.get())?;
-            Ok(out.push_str(")")?)
-        }
-        Expr::Cmp(test, a, b) => {
-            out.push_str("(")?;
-            print_expression(out, a.get())?;
-            out.push_str(test_text(*test))?;
-            print_expression(out, b.get())?;
-            Ok(out.push_str(")")?)
-        }
-        Expr::And(a, b) => {
-            out.push_str("(")?;
-            print_expression(out, a.get())?;
-            out.push_str(" AND ")?;
-            print_expression(out, b.get())?;
-            Ok(out.push_str(")")?)
-        }
-        Expr::Or(a, b) => {
-            out.push_str("(")?;
-            print_expression(out, a.get())?;
-            out.push_str(" OR ")?;
+            out.push_str(word_between(expr))?;
             print_expression(out, b.get())?;
             Ok(out.push_str(")")?)
         }

@@ -5,16 +5,15 @@ use geo_schema::{Kind, Schema};
 use std::alloc::Global;
 use std::test::Fail;
 
-const NAMES: [&str; 32] = [
-    "c0", "c1", "c2", "c3", "c4", "c5", "c6", "c7", "c8", "c9", "c10", "c11", "c12", "c13", "c14",
-    "c15", "c16", "c17", "c18", "c19", "c20", "c21", "c22", "c23", "c24", "c25", "c26", "c27",
-    "c28", "c29", "c30", "c31",
-];
+const NAMES: &str = "
+c0 c1 c2 c3 c4 c5 c6 c7 c8 c9 c10 c11 c12 c13 c14 c15
+c16 c17 c18 c19 c20 c21 c22 c23 c24 c25 c26 c27 c28 c29 c30 c31
+";
 
 /// The table alone, with numbers in all its columns.
 fn schema(alloc: Global) -> Result<Schema, Fail> {
     let mut columns = Vec::new(alloc);
-    for name in NAMES {
+    for name in NAMES.split_whitespace() {
         columns.push((name, Kind::Int))?;
     }
     let wide = table(alloc, "wide", columns.as_slice(), &[0, 1, 2, 3])?;
