@@ -2,18 +2,18 @@
 //! statement that writes, the net after it stands behind a semicolon, and in front of that how many rows it has changed.
 ghost use Rattle.std.specs.Prelude.{◌≡◌, false, [], length, IsTrue};
 ghost use Rattle.row_source.specs.Sources.{AreRowsOf};
-ghost use Rattle.sql_bind.specs.Sound.{IsSoundDelete, IsSoundLock, IsSoundSelect};
+ghost use Rattle.sql_bind.specs.Sound.{IsSoundDelete, IsSoundInsert, IsSoundLock, IsSoundSelect, IsSoundUpdate};
 ghost use Rattle.sql_bind.specs.Statements as statements;
 ghost use Rattle.write_set.specs.Overlay.{overlay};
 
 use crate::counted::Counted;
 use crate::nets::print_net;
-use geo_base::{NoMemory, print_row};
+use geo_base::{NoMemory, RowId, Txt, print_row};
 use geo_schema::Schema;
 use row_source::{ExecFault, Steps};
 use sql_ast::Statement;
-use sql_bind::{Bound, BoundDelete, BoundSelect, bind};
-use sql_exec::{Effect, LineList, Locked, delete, lock, select};
+use sql_bind::{Bound, BoundDelete, BoundInsert, BoundSelect, BoundUpdate, bind};
+use sql_exec::{Effect, LineList, Locked, delete, insert, lock, select, update};
 use sql_parse::parse;
 use std::alloc::Global;
 use std::sync::ledger::Ledger;
@@ -27,7 +27,7 @@ fn fault_text(fault: &ExecFault) -> &'static str {
         ExecFault::ResultTooLong => " ResultTooLong",
         ExecFault::TooManyRows => " TooManyRows",
         ExecFault::NoMemory => " NoMemory",
-        _ => " a fault of a write",
+        _ => " another fault",
     }
 }
 
@@ -57,6 +57,27 @@ fn print_locked(out: &mut String, answer: &Result<Locked, ExecFault>) -> Result<
     }
 }
 
+fn print_row_name(out: &mut String, row: &RowId) -> Result<(), NoMemory> {
+    let table = row.table;
+    write!(out, " Duplicate {table} ")?;
+    print_row(out, row.key.cells())
+}
+
+fn print_column(out: &mut String, fault: &str, name: &Txt) -> Result<(), NoMemory> {
+    out.push_str(fault)?;
+    Ok(out.push_str(name.text())?)
+}
+
+/// Writes the fault of a statement that writes, with the row or the column that it names.
+fn print_fault(out: &mut String, fault: &ExecFault) -> Result<(), NoMemory> {
+    match fault {
+        ExecFault::Duplicate(row) => print_row_name(out, row),
+        ExecFault::NullNotAllowed(name) => print_column(out, " NullNotAllowed ", name),
+        ExecFault::TextTooLong(name) => print_column(out, " TextTooLong ", name),
+        _ => Ok(out.push_str(fault_text(fault))?),
+    }
+}
+
 fn print_effect(out: &mut String, answer: &Result<Effect, ExecFault>) -> Result<(), NoMemory> {
     match answer {
         Ok(effect) => {
@@ -64,7 +85,7 @@ fn print_effect(out: &mut String, answer: &Result<Effect, ExecFault>) -> Result<
             write!(out, " {changed};")?;
             print_net(out, &effect.own)
         }
-        Err(fault) => Ok(out.push_str(fault_text(fault))?),
+        Err(fault) => print_fault(out, fault),
     }
 }
 
@@ -123,6 +144,52 @@ fn locked<L: Ledger>(
     Ok(out)
 }
 
+/// What a statement that writes has done, behind how many rows it was handed.
+fn effect_text(
+    alloc: Global,
+    source: &Counted,
+    answer: &Result<Effect, ExecFault>,
+) -> Result<String, Fail> {
+    let count = source.take_count();
+    let mut out = format!(in alloc; "{count}:")?;
+    print_effect(&mut out, answer)?;
+    Ok(out)
+}
+
+fn inserted(
+    alloc: Global,
+    schema: &Schema,
+    source: &Counted,
+    own: &WriteSet,
+    query: &BoundInsert,
+) -> Result<String, Fail>
+    requires { IsSoundInsert schema.now query.now }
+{
+    let answer = insert(alloc, query, source, own, schema);
+    let out = effect_text(alloc, source, &answer);
+    drop(answer);
+    out
+}
+
+fn updated<L: Ledger>(
+    alloc: Global,
+    schema: &Schema,
+    source: &Counted,
+    own: &WriteSet,
+    query: &BoundUpdate,
+    steps: &mut Steps<L>,
+) -> Result<String, Fail>
+    requires sound { IsSoundUpdate schema.now query.now }
+    requires schema { source.now.list.tables ≡ schema.now }
+    requires rows { AreRowsOf schema.now source.now.list.rows }
+    requires laid { source.now.list.rows ≡ overlay source.now.list.base own.now }
+{
+    let answer = update(alloc, query, source, own, schema, steps);
+    let out = effect_text(alloc, source, &answer);
+    drop(answer);
+    out
+}
+
 fn deleted<L: Ledger>(
     alloc: Global,
     schema: &Schema,
@@ -137,11 +204,9 @@ fn deleted<L: Ledger>(
     requires laid { source.now.list.rows ≡ overlay source.now.list.base own.now }
 {
     let answer = delete(alloc, query, source, own, schema, steps);
-    let count = source.take_count();
-    let mut out = format!(in alloc; "{count}:")?;
-    print_effect(&mut out, &answer)?;
+    let out = effect_text(alloc, source, &answer);
     drop(answer);
-    Ok(out)
+    out
 }
 
 /// Whether the statement is one that is bound.
@@ -162,8 +227,8 @@ fn statement_of(alloc: Global, text: &str) -> Result<Statement, Fail> {
     Ok(parse(alloc, text)?)
 }
 
-/// What the statement of a text is answered behind the net of the transaction. It has to be a DELETE, or a query of one
-/// table without groups and order.
+/// What the statement of a text is answered behind the net of the transaction. It has to be one that writes,
+/// or a query of one table without groups and order.
 pub fn answer<L: Ledger>(
     alloc: Global,
     schema: &Schema,
@@ -185,6 +250,8 @@ pub fn answer<L: Ledger>(
     let answer = match &bound {
         Ok(Bound::Select(query)) => selected(alloc, schema, source, query, steps),
         Ok(Bound::Lock(query)) => locked(alloc, schema, source, own, query, steps),
+        Ok(Bound::Insert(query)) => inserted(alloc, schema, source, own, query),
+        Ok(Bound::Update(query)) => updated(alloc, schema, source, own, query, steps),
         Ok(Bound::Delete(query)) => deleted(alloc, schema, source, own, query, steps),
         _ => Err("another statement".into()),
     };

@@ -19,12 +19,13 @@ use std::test::Fail;
 use write_set::WriteSet;
 
 /// Accounts with an index of their owners; customers with names as keys; events with a key of two columns, which aren't
-/// in their order, and an index of their kinds; and a table without rows.
+/// in their order, and an index of their kinds; a table without rows; and items, whose names aren't null.
 const TABLES: &str = "\
 acc|id i,owner i,amount i|0|1
 cust|name t,good b|0|
 event|region i,at i,kind i|10|2
-void|id i,value i|0|1";
+void|id i,value i|0|1
+item|id i,name T,note t,size i|0|";
 
 const ROWS: &str = "\
 0: 1 7 10
@@ -39,7 +40,9 @@ const ROWS: &str = "\
 2: 5 1 -
 2: 0 2 10
 2: 9 2 20
-2: 1 3 10";
+2: 1 3 10
+4: 1 'pen - 3
+4: 2 'ink 'blue 5";
 
 /// The line and what its statement is answered, if that isn't what the line says.
 fn wrong<L: Ledger>(
@@ -63,12 +66,17 @@ fn wrong<L: Ledger>(
 }
 
 /// The source of the rows with the net laid over them, and which has the rows without it as its base.
-fn source_of<'a>(alloc: Global, schema: &'a Schema, own: &WriteSet) -> Result<Counted<'a>, Fail>
+fn source_of<'a>(
+    alloc: Global,
+    schema: &'a Schema,
+    rows: &str,
+    own: &WriteSet,
+) -> Result<Counted<'a>, Fail>
     ensures schema { IfOk result (λ source. source.list.tables ≡ schema.entry.now) }
     ensures rows { IfOk result (λ source. AreRowsOf schema.entry.now source.list.rows) }
     ensures laid { IfOk result (λ source. source.list.rows ≡ overlay source.list.base own.now) }
 {
-    let laid = laid(alloc, rows_of(alloc, schema, ROWS)?, own)?;
+    let laid = laid(alloc, rows_of(alloc, schema, rows)?, own)?;
     if !are_rows(alloc, schema, laid.rows.as_slice())? {
         return Err("a net of other rows".into());
     }
@@ -80,6 +88,7 @@ fn source_of<'a>(alloc: Global, schema: &'a Schema, own: &WriteSet) -> Result<Co
 
 fn first_wrong_on<L: Ledger>(
     alloc: Global,
+    rows: String,
     net: String,
     lines: String,
     blank: Blank,
@@ -90,7 +99,7 @@ fn first_wrong_on<L: Ledger>(
 {
     let schema = schema_of(alloc, TABLES)?;
     let own = net_of(alloc, &schema, net.as_str())?;
-    let source = source_of(alloc, &schema, &own)?;
+    let source = source_of(alloc, &schema, rows.as_str(), &own)?;
     let mut steps: Steps<L> = Steps::new(blank);
     for line in lines.lines() {
         if let Some(wrong) = wrong(alloc, &schema, &source, &own, line, &mut steps)? {
@@ -108,6 +117,18 @@ pub fn first_wrong(alloc: Global, lines: &str) -> Result<Option<String>, Fail> {
 
 /// The same behind a net.
 pub fn first_wrong_behind(alloc: Global, net: &str, lines: &str) -> Result<Option<String>, Fail> {
+    let rows = String::from_str(alloc, ROWS)?;
     let net = String::from_str(alloc, net)?;
-    first_wrong_on::<Brand>(alloc, net, String::from_str(alloc, lines)?, Blank::new(1))
+    let lines = String::from_str(alloc, lines)?;
+    first_wrong_on::<Brand>(alloc, rows, net, lines, Blank::new(1))
+}
+
+/// The same over rows of one's own.
+pub fn first_wrong_among(
+    alloc: Global,
+    rows: String,
+    lines: String,
+) -> Result<Option<String>, Fail> {
+    let net = String::new(alloc);
+    first_wrong_on::<Brand>(alloc, rows, net, lines, Blank::new(1))
 }

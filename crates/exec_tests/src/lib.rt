@@ -19,7 +19,11 @@ mod deletes;
 #[cfg(test)]
 mod faults;
 #[cfg(test)]
+mod inserts;
+#[cfg(test)]
 mod laying;
+#[cfg(test)]
+mod limits;
 #[cfg(test)]
 mod locks;
 #[cfg(test)]
@@ -30,3 +34,5 @@ mod plain;
 mod rows;
 #[cfg(test)]
 mod tables;
+#[cfg(test)]
+mod updates;

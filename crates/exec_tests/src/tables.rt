@@ -1,7 +1,7 @@
 //! Tables as texts: `NAME|COLUMNS|KEY|INDEXES`, one a line.
 //!
 //! Columns have commas between them, and each is its name and, behind a space, `i` for numbers, `b` for truth values or
-//! `t` for texts of at most 20 bytes. A place is one digit. An index is its places, which are its name too, and indexes
+//! `t` for texts of at most 20 bytes, and a capital letter where it isn't null. A place is one digit. An index is its places, which are its name too, and indexes
 //! have commas between them.
 use geo_base::Txt;
 use geo_schema::{ColumnDef, ColumnList, IndexDef, IndexList, Kind, PlaceList, Schema, TableDef};
@@ -10,8 +10,8 @@ use std::test::Fail;
 
 fn kind_of(letter: &str) -> Kind {
     match letter {
-        "i" => Kind::Int,
-        "b" => Kind::Truth,
+        "i" | "I" => Kind::Int,
+        "b" | "B" => Kind::Truth,
         _ => Kind::Text { max: 20 },
     }
 }
@@ -21,7 +21,7 @@ fn column_of(alloc: Global, text: &str) -> Result<ColumnDef, Fail> {
     Ok(ColumnDef {
         name: Txt::new(alloc, name)?,
         kind: kind_of(kind),
-        not_null: false,
+        not_null: matches!(kind, "I" | "B" | "T"),
     })
 }
 

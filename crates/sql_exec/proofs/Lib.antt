@@ -13,3 +13,9 @@ mod ByPlan
 mod Locking
 mod Locks
 mod Removed
+mod Columns
+mod Written
+mod Answered
+mod Inserted
+mod Imaged
+mod Updated

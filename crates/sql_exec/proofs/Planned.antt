@@ -86,7 +86,7 @@ the_table (table ∷ []) d one = refl
 the_table (table ∷ other ∷ more) d one = absurd (omega (arith, one))
 
 -- what the plan leaves out of one table
-left_out : (tables : Tables) (numbers : List ℕ) (number : ℕ) (plan : Plan) (rows : Table) (tests : List Expr) → numbers ≡ number ∷ [] →
+pub left_out : (tables : Tables) (numbers : List ℕ) (number : ℕ) (plan : Plan) (rows : Table) (tests : List Expr) → numbers ≡ number ∷ [] →
     LeavesOut tables numbers plan rows (λ cells. kept cells tests ≡ Ok false) →
     (a : Entry) → Contains rows a → nat_eq a.0.table number ≡ true → reaches tables number plan.first a ≡ false → kept a.1 tests ≡ Ok false
 left_out tables numbers number plan rows tests is leaves a there here missed =

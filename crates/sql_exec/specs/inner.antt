@@ -1,7 +1,10 @@
 -- What only the bodies of this crate speak of.
+pub mod Fitting
 pub mod Handed
+pub mod Inserting
 pub mod Making
 pub mod Naming
 pub mod Plain
 pub mod Removing
 pub mod Touching
+pub mod Updating

@@ -13,7 +13,7 @@ use std::alloc::Global;
 
 /// Whether every test is true over the row.
 #[tactic(auto, using(crate::proofs::Alone::no_right))]
-fn is_kept(tests: &[Expr], row: &[Cell]) -> Result<bool, ExecFault>
+pub(crate) fn is_kept(tests: &[Expr], row: &[Cell]) -> Result<bool, ExecFault>
     ensures { Matches (λ b. b) result (in_statement (kept row.now tests.now)) }
 {
     passes(tests, row, &[])

@@ -18,7 +18,7 @@ use std::alloc::Global;
 
 /// The value of an expression over a row of one table.
 #[tactic(auto, using(crate::proofs::Alone::no_right))]
-fn value_over(alloc: Global, expr: &Expr, row: &[Cell]) -> Result<Cell, ExecFault>
+pub(crate) fn value_over(alloc: Global, expr: &Expr, row: &[Cell]) -> Result<Cell, ExecFault>
     ensures { Gives fault.NoMemory (λ c. c) result (matched.value row.now expr.now) }
 {
     value(alloc, expr, row, &[])
