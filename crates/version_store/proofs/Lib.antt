@@ -1,0 +1,5 @@
+mod Finding
+mod Applying
+mod Listed
+mod Trimmed
+mod Gathering

@@ -1,0 +1,11 @@
+use Rattle.version_store.specs.laws.Growing.{images, change_after, change_upto}
+use Rattle.version_store.proofs.laws.versions_answer_as_snapshots.Goals as goal
+
+pub returns-clause-images : goal.returns-clause-images
+returns-clause-images c = images
+
+pub returns-clause-after : goal.returns-clause-after
+returns-clause-after c = change_after
+
+pub returns-clause-upto : goal.returns-clause-upto
+returns-clause-upto c = change_upto

@@ -1,0 +1,6 @@
+use Rattle.std.proofs.Common.{◌≡◌, ◌++◌, map, take}
+use Rattle.version_store.proofs.writing.add_each.Given as goal
+
+-- the items so far are added
+abbrev pub invariant-loop-item : goal.invariant-loop-item
+invariant-loop-item g l = map (λ x. x.now) l.all.items ≡ map (λ x. x.now) l.initial.all.items ++ take l.item-index l.items

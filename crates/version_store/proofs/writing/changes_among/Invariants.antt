@@ -1,0 +1,7 @@
+use Rattle.std.proofs.Common.{◌≡◌, map, take}
+use Rattle.version_store.specs.inner.Gathering.{changes_among}
+use Rattle.version_store.proofs.writing.changes_among.Given as goal
+
+-- the changes of the candidates so far are gathered
+abbrev pub invariant-loop-place : goal.invariant-loop-place
+invariant-loop-place l = map (λ c. c.now) l.changes.items ≡ changes_among (map (λ c. c.now) (take l.place l.candidates)) l.outcomes
