@@ -2,6 +2,7 @@
 use Rattle.std.specs.Prelude.{ℕ, ◌-◌, ◌++◌, ◌==◌, Bool, true, false, List, [], length, replicate, find, Option, Result, Ok, Err, if◌then◌else◌}
 use Rattle.geo_io.specs.Causes.{raised}
 use Rattle.geo_io.specs.Told.{Lists}
+use Rattle.geo_io.specs.declared.limits.TheConstants.{MAX_WIDTH}
 use Rattle.geo_io.specs.declared.fail_plan.Fail.{Fail}
 use Rattle.geo_io.specs.declared.fault.IoFault.{IoFault}
 use Rattle.geo_io.specs.declared.fault.IoFault.TheVariants.{Failed, NoMemory}
@@ -46,7 +47,7 @@ next_fail plan = find (λ fail. fail.call == plan.next) plan.fails
 
 -- these lists, and an empty one for each of the eight regions that has none
 abbrev pub eight_lists : Lists → Lists
-eight_lists given = given ++ replicate (8 - length given) []
+eight_lists given = given ++ replicate (MAX_WIDTH - length given) []
 
 -- the answer is the fault of the object itself, and not want of memory
 abbrev pub is_failed : {T : Type 0} → Result T IoFault → Bool

@@ -1,5 +1,5 @@
 -- What a source has left, a sink holds and keepers keep, where they tell it.
-use Rattle.std.specs.Prelude.{◌≡◌, ◌⊎◌, ℕ, ◌≤◌, List, [], ◌∷◌, ◌++◌, length, Option, None, Some, ⊤, slice_set, slice_index_or}
+use Rattle.std.specs.Prelude.{◌≡◌, ◌≢◌, ◌⊎◌, ℕ, ◌<◌, ◌≤◌, List, [], ◌∷◌, ◌++◌, length, Option, None, Some, ⊤, slice_set, slice_index_or}
 use Rattle.std.specs.Io.KnownBytes.{Appends, Consumes}
 
 -- for each region its list of entries, each a list of bytes
@@ -13,6 +13,16 @@ list_of all region = slice_index_or all region []
 -- the lists with one more entry at the end of a region's
 abbrev pub with_entry : ℕ → List ℕ → Lists → Lists
 with_entry region entry all = slice_set all region (list_of all region ++ entry ∷ [])
+
+-- an entry at the end of a region's list leaves the other lists as they are
+pub record EntryStandsAtTheEnd (all : Lists) (region : ℕ) (entry : List ℕ) : Type 0 where
+  pub own : list_of (with_entry region entry all) region ≡ list_of all region ++ entry ∷ []
+  pub others : (other : ℕ) → other ≢ region → list_of (with_entry region entry all) other ≡ list_of all other
+  pub width : length (with_entry region entry all) ≡ length all
+
+-- so it is of each region that has a list
+abbrev pub AppendedEntriesStandAtTheEnd : Type 0
+AppendedEntriesStandAtTheEnd = (all : Lists) (region : ℕ) (entry : List ℕ) → region < length all → EntryStandsAtTheEnd all region entry
 
 -- the region's list got this entry
 abbrev pub Gains : ℕ → List ℕ → Lists → Lists → Type 0

@@ -1,5 +1,6 @@
 // A file of entries: of each its length, as a big-endian number of four bytes, and then its bytes.
 
+use crate::limits::MAX_ENTRY_BYTES;
 use byteorder::{BigEndian, ReadBytesExt, WriteBytesExt};
 use std::alloc::Global;
 use std::fs::OpenFile;
@@ -52,7 +53,8 @@ impl Places {
 }
 
 /// The places of the whole entries in the first `len` bytes of a file. It reads the lengths, and skips the bytes
-/// of the entries. What stands behind them is no whole entry.
+/// of the entries. What stands behind them is the front of one more entry, which a write that was cut off leaves.
+/// A length above the limit is an error, since no write leaves it.
 pub(crate) fn find_places<F: Read + Seek + Drop>(
     alloc: Global,
     file: F,
@@ -75,12 +77,21 @@ fn next_len<F: Read + Seek>(reader: &mut BufReader<F>, left: u64) -> io::Result<
     let Some(room) = left.checked_sub(HEADER) else {
         return Ok(None);
     };
-    let len = reader.read_u32::<BigEndian>()?;
+    let len = read_len(reader)?;
     if u64::from(len) > room {
         return Ok(None);
     }
     reader.seek_relative(i64::from(len))?;
     Ok(Some(len))
+}
+
+// A length of at most the limit.
+fn read_len<F: Read>(file: &mut F) -> io::Result<u32> {
+    let len = file.read_u32::<BigEndian>()?;
+    if len > MAX_ENTRY_BYTES {
+        return Err(io::Error::from(ErrorKind::InvalidData));
+    }
+    Ok(len)
 }
 
 /// The bytes of the entry that begins at a place.
@@ -90,10 +101,16 @@ pub(crate) fn read_entry<F: Read + Seek>(
     begin: u64,
 ) -> io::Result<Vec<u8>> {
     file.seek(SeekFrom::Start(begin))?;
-    let len = file.read_u32::<BigEndian>()?;
+    let len = read_len(file)?;
     let mut bytes = vec![in alloc; 0; len as usize]?;
     file.read_exact(&mut bytes)?;
     Ok(bytes)
+}
+
+/// Cuts a file behind its first bytes, and waits until that stands on the disk.
+pub(crate) fn cut_back<F: OpenFile>(file: &F, end: u64) -> io::Result<()> {
+    file.set_len(end)?;
+    file.sync_all()
 }
 
 /// Writes an entry at a place, and waits until it stands on the disk.

@@ -11,12 +11,19 @@ use std::rt::Files;
 /// entry its length, as a big-endian number of four bytes, and its bytes. A file that isn't there is an empty
 /// list. An append writes behind the last whole entry and then syncs; it makes the file, and never the folder.
 ///
-/// A file is read when its region is first asked for, and again after an append that failed. Where it ends in
-/// the middle of an entry, it is cut to the entries that are whole. From then on `len` reads nothing, and `read`
-/// its entry alone.
+/// A file is read when its region is first asked for, and again after a call that failed. What is found is synced
+/// before it is told. Where the file ends in the middle of an entry, it is cut to the entries that are whole, and
+/// synced again. From then on `len` reads nothing, and `read` its entry alone.
 ///
-/// Each error of a file is a fault, and so are an entry number past the list, an entry of 2^32 bytes or more,
-/// and want of memory in `len`, which has no other answer for it.
+/// What an append failed to write is cut off before the region is told of again; so the entry isn't kept, unless
+/// the program ends first: then the next one tells it where the file has all of it. A sync of what is found can't
+/// be trusted after one that failed: where a disk has lost what an earlier program wrote, the call that syncs
+/// fails, and a later one may tell an entry that isn't on the disk.
+///
+/// A fault is: an error of a file, also of the cut; a length above [`MAX_ENTRY_BYTES`](crate::MAX_ENTRY_BYTES) in a
+/// file, which is left as it is; an entry number past the list; an entry of more bytes than that; and want of
+/// memory in `len`, which has no other answer for it. An error of opening or reading that is want of memory is
+/// answered so in `read` and `append`.
 #[derive(Drop)]
 pub struct FolderKeepers<R> {
     logs: LogFolder<R>,

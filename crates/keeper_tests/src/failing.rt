@@ -1,4 +1,4 @@
-//! Files of the host of which one call fails.
+//! Files of the host of which some calls fail, and what of one file stands on the disk.
 
 use std::alloc::Allocator;
 use std::cell::Cell;
@@ -7,28 +7,72 @@ use std::io;
 use std::io::{ErrorKind, Read, Seek, SeekFrom, Write};
 use std::rt::Files;
 
-/// Counts the calls on files, and says which of them fails.
+// Whether a file stands on the disk as it is read.
+#[derive(Clone, Copy, PartialEq, Eq)]
+enum OnDisk {
+    // another program left it so, and may not have synced it
+    Left,
+    // it was written or cut since the last sync
+    Changed,
+    // a sync failed after that: what was written may be lost, also where the next sync goes well
+    Lost,
+    // all of it stands
+    Synced,
+}
+
+/// Counts the calls on the files, of which one alone has entries, and says which of them fail.
 #[derive(Drop)]
 pub struct Trouble {
+    // how many calls are left up to the last that fails, and how many of these fail
     left: Cell<u64>,
+    fails: u64,
     kind: ErrorKind,
+    on_disk: Cell<OnDisk>,
 }
 
 impl Trouble {
-    /// The call of this number, from 0, fails by an error of this kind.
-    pub fn new(call: u64, kind: ErrorKind) -> Self {
+    /// So many calls from the one of this number on, from 0, fail by an error of this kind.
+    pub fn new(call: u64, fails: u64, kind: ErrorKind) -> Self {
         Trouble {
-            left: Cell::new(call.saturating_add(1)),
+            left: Cell::new(call.saturating_add(fails)),
+            fails,
             kind,
+            on_disk: Cell::new(OnDisk::Left),
         }
     }
 
-    /// The call that was to fail was made.
-    pub fn is_over(&self) -> bool {
-        self.left.get() == 0
+    /// How many calls have failed.
+    pub fn failed(&self) -> u64 {
+        self.fails.saturating_sub(self.left.get())
     }
 
-    // Counts a call that can't be interrupted, and fails where it is the one.
+    /// What was written and cut stands on the disk.
+    pub fn is_synced(&self) -> bool {
+        self.on_disk.get() == OnDisk::Synced
+    }
+
+    // Something was written: it can't be more certain than what was lost.
+    fn write(&self) {
+        if self.on_disk.get() != OnDisk::Lost {
+            self.on_disk.set(OnDisk::Changed);
+        }
+    }
+
+    // The file was cut, and what was lost with it.
+    fn cut(&self) {
+        self.on_disk.set(OnDisk::Changed);
+    }
+
+    // A sync that went well or didn't.
+    fn sync(&self, done: bool) {
+        match self.on_disk.get() {
+            OnDisk::Changed if !done => self.on_disk.set(OnDisk::Lost),
+            OnDisk::Changed | OnDisk::Left if done => self.on_disk.set(OnDisk::Synced),
+            _ => {}
+        }
+    }
+
+    // Counts a call that can't be interrupted, and fails where it is to.
     fn meet(&self) -> io::Result<()> {
         if self.kind == ErrorKind::Interrupted {
             return Ok(());
@@ -36,12 +80,11 @@ impl Trouble {
         self.meet_stream()
     }
 
-    // Counts a read or a write, and fails where it is the one.
+    // Counts a read or a write, and fails where it is to.
     fn meet_stream(&self) -> io::Result<()> {
-        let left = self.left.get().saturating_sub(1);
-        let met = left == 0 && !self.is_over();
-        self.left.set(left);
-        if met {
+        let left = self.left.get();
+        self.left.set(left.saturating_sub(1));
+        if 0 < left && left <= self.fails {
             return Err(io::Error::from(self.kind));
         }
         Ok(())
@@ -124,10 +167,12 @@ impl Write for FailingFile<'_> {
     fn write(&mut self, buf: &[u8]) -> io::Result<usize> {
         if let Err(error) = self.trouble.meet_stream() {
             if error.kind() != ErrorKind::Interrupted {
+                self.trouble.write();
                 let _ = self.file.write(&buf[..buf.len() / 2]);
             }
             return Err(error);
         }
+        self.trouble.write();
         self.file.write(buf)
     }
 
@@ -151,12 +196,15 @@ impl OpenFile for FailingFile<'_> {
 
     fn set_len(&self, size: u64) -> io::Result<()> {
         self.trouble.meet()?;
+        self.trouble.cut();
         self.file.set_len(size)
     }
 
-    // A sync that fails may have come after all was written.
+    // A sync that fails comes after all was written.
     fn sync_all(&self) -> io::Result<()> {
-        self.trouble.meet()?;
+        let met = self.trouble.meet();
+        self.trouble.sync(met.is_ok());
+        met?;
         self.file.sync_all()
     }
 

@@ -1,113 +1,134 @@
 //! Keepers over the files of a folder: what they leave there, and what they make of it.
-ghost use Rattle.std.specs.Prelude.{◌≡◌};
 
-use crate::asking::entries;
-use crate::scratch::{log_path, make_folder};
-use geo_io::{FolderKeepers, IoFault, Keepers};
-use std::fs;
+use crate::playing::{play, play_over};
 use std::test::Fail;
 
-// Keepers may be handed to another thread.
-fn hand_over<K: Keepers + Send>(keepers: K) -> K
-    ensures { result ≡ keepers }
-{
-    keepers
-}
+/// An empty folder, and then what was left in it.
+const LEFT: &str = "\
+0 len => Ok(0)
+0 append first => Ok(1)
+7 append other => Ok(1)
+0 append  => Ok(2)
+0 append second => Ok(3)
+0 holds 0005first00000006second => true
+0 entries => first||second|
+7 entries => other|
+6 len => Ok(0)
+anew
+0 entries => first||second|
+7 entries => other|
+6 len => Ok(0)
+6 there => false";
+
+/// Without its folder a log is empty, and nothing can be kept in it.
+const GONE: &str = "\
+0 gone => done
+0 len => Ok(0)
+0 append lost => Err(Failed)
+0 len => Ok(0)
+0 there => false";
+
+/// A number past the list is a fault, and so is a file that is none.
+const NONE: &str = "\
+1 append one => Ok(1)
+1 read 1 => Err(Failed)
+1 read 0 => Ok(3)
+2 folder => done
+2 len => Err(Failed)
+2 append two => Err(Failed)";
+
+/// A length that was changed to more than an entry has is a fault, and the file stays as it is.
+const LENGTHS: &str = "\
+3 write 0005first1002ab0003abc => done
+3 len => Err(Failed)
+3 read 0 => Err(Failed)
+3 append next => Err(Failed)
+3 holds 0005first1002ab0003abc => true
+anew
+3 write 0005first~002ab0003abc => done
+3 len => Err(Failed)
+3 read 0 => Err(Failed)
+3 append next => Err(Failed)
+3 holds 0005first~002ab0003abc => true
+anew
+3 write 0005first0@01ab0003abc => done
+3 len => Err(Failed)
+3 read 0 => Err(Failed)
+3 append next => Err(Failed)
+3 holds 0005first0@01ab0003abc => true";
+
+/// The second length is the most that an entry has, and reaches past the end.
+const LONGEST: &str = "\
+3 write 0005first0@00ab => done
+3 entries => first|
+3 holds 0005first => true";
+
+/// An entry of the most bytes is kept, and one of a byte more is a fault that writes nothing.
+const LONG: &str = "\
+4 long 4194305 => Err(Failed)
+4 there => false
+4 long 4194304 => Ok(1)
+anew
+4 read 0 => Ok(4194304)";
 
 #[test]
-fn an_empty_folder_and_what_was_left_in_it(rt: HostRuntime) -> Result<(), Fail> {
-    let alloc = rt.alloc();
-    let folder = make_folder(&rt, "left")?;
-    let mut keepers = hand_over(FolderKeepers::new(rt.clone()?, alloc, folder.clone()?));
-    assert_eq!(rt; keepers.len(0), Ok(0));
-    for (region, entry) in [(0u8, "first"), (7, "other"), (0, ""), (0, "second")] {
-        assert!(rt; region < 8);
-        assert_eq!(rt; keepers.append(region, entry.as_bytes()), Ok(()));
+fn files_are_told_as_they_were_left(rt: HostRuntime) -> Result<(), Fail> {
+    for text in [LEFT, GONE, NONE, LENGTHS, LONGEST, LONG] {
+        play(&rt, text)?;
     }
-    let wanted = b"\0\0\0\x05first\0\0\0\0\0\0\0\x06second";
-    assert_eq!(rt;
-        fs::read(&rt, log_path(&rt, &folder, 0)?)?.as_slice(),
-        wanted.as_slice()
-    );
-    for mut reader in [
-        keepers,
-        FolderKeepers::new(rt.clone()?, alloc, folder.clone()?),
-    ] {
-        assert_eq!(rt;
-            entries(alloc, &mut reader, 0)?.as_slice(),
-            b"first||second|".as_slice()
-        );
-        assert_eq!(rt;
-            entries(alloc, &mut reader, 7)?.as_slice(),
-            b"other|".as_slice()
-        );
-        assert_eq!(rt; reader.len(6), Ok(0));
-    }
-    assert!(rt; !fs::exists(&rt, log_path(&rt, &folder, 6)?)?);
-    fs::remove_dir_all(&rt, folder.as_str())?;
     Ok(())
 }
 
-// The file has entries of five, of no and of three bytes: they end at its bytes 9, 13 and 20.
+/// Entries of five, of no and of three bytes: they end behind 9, 13 and 20 bytes.
+const WHOLE: &str = "0005first00000003abc";
+
+/// What is told of this file where it is cut in the first entry, and so on.
+const NO_ENTRY: &str = "\
+3 entries => 
+3 holds  => true
+3 append next => Ok(1)
+anew
+3 entries => next|
+3 holds 0004next => true";
+
+const ONE_ENTRY: &str = "\
+3 entries => first|
+3 holds 0005first => true
+3 append next => Ok(2)
+anew
+3 entries => first|next|
+3 holds 0005first0004next => true";
+
+const TWO_ENTRIES: &str = "\
+3 entries => first||
+3 holds 0005first0000 => true
+3 append next => Ok(3)
+anew
+3 entries => first||next|
+3 holds 0005first00000004next => true";
+
+const ALL_ENTRIES: &str = "\
+3 entries => first||abc|
+3 holds 0005first00000003abc => true
+3 append next => Ok(4)
+anew
+3 entries => first||abc|next|
+3 holds 0005first00000003abc0004next => true";
+
+// What is told where the file is cut behind so many bytes.
+fn lines_of(cut: usize) -> &'static str {
+    match cut {
+        0..9 => NO_ENTRY,
+        9..13 => ONE_ENTRY,
+        13..20 => TWO_ENTRIES,
+        _ => ALL_ENTRIES,
+    }
+}
+
 #[test]
 fn a_cut_file_has_its_whole_entries(rt: HostRuntime) -> Result<(), Fail> {
-    let alloc = rt.alloc();
-    let folder = make_folder(&rt, "cut")?;
-    let path = log_path(&rt, &folder, 3)?;
-    let whole = b"\0\0\0\x05first\0\0\0\0\0\0\0\x03abc";
-    for cut in 0..=whole.len() {
-        let (bytes, end) = match cut {
-            0..9 => ("", 0),
-            9..13 => ("first|", 9),
-            13..20 => ("first||", 13),
-            _ => ("first||abc|", 20),
-        };
-        fs::write(&rt, path.as_str(), &whole[..cut])?;
-        let mut keepers = FolderKeepers::new(&rt, alloc, folder.clone()?);
-        assert_eq!(rt;
-            entries(alloc, &mut keepers, 3)?.as_slice(),
-            bytes.as_bytes(),
-            "at {cut}"
-        );
-        assert_eq!(rt; fs::metadata(&rt, path.as_str())?.len(), end, "at {cut}");
-        assert_eq!(rt; keepers.append(3, b"next"), Ok(()));
-        let mut again = FolderKeepers::new(&rt, alloc, folder.clone()?);
-        let wanted = format!(in alloc; "{bytes}next|")?;
-        assert_eq!(rt;
-            entries(alloc, &mut again, 3)?.as_slice(),
-            wanted.as_bytes(),
-            "at {cut}"
-        );
+    for cut in 0..=WHOLE.len() {
+        play_over(&rt, WHOLE.get(..cut).unwrap_or(""), lines_of(cut))?;
     }
-    fs::remove_dir_all(&rt, folder.as_str())?;
-    Ok(())
-}
-
-// Without its folder a log is empty, and nothing can be kept in it.
-#[test]
-fn a_folder_that_is_not_there(rt: HostRuntime) -> Result<(), Fail> {
-    let alloc = rt.alloc();
-    let folder = make_folder(&rt, "gone")?;
-    fs::remove_dir_all(&rt, folder.as_str())?;
-    let mut keepers = FolderKeepers::new(&rt, alloc, folder.clone()?);
-    assert_eq!(rt; keepers.len(0), Ok(0));
-    assert_eq!(rt; keepers.append(0, b"lost"), Err(IoFault::Failed));
-    assert_eq!(rt; keepers.len(0), Ok(0));
-    assert!(rt; !fs::exists(&rt, folder.as_str())?);
-    Ok(())
-}
-
-// A number past the list is a fault, and so is a file that is none.
-#[test]
-fn what_is_no_entry_is_a_fault(rt: HostRuntime) -> Result<(), Fail> {
-    let alloc = rt.alloc();
-    let folder = make_folder(&rt, "none")?;
-    let mut keepers = FolderKeepers::new(&rt, alloc, folder.clone()?);
-    assert_eq!(rt; keepers.append(1, b"one"), Ok(()));
-    assert_eq!(rt; keepers.read(alloc, 1, 1).err(), Some(IoFault::Failed));
-    fs::create_dir(&rt, log_path(&rt, &folder, 2)?)?;
-    assert!(rt; keepers.len(2).is_err());
-    assert_eq!(rt; keepers.append(2, b"two"), Err(IoFault::Failed));
-    fs::remove_dir_all(&rt, folder.as_str())?;
     Ok(())
 }

@@ -15,4 +15,6 @@ mod folder;
 #[cfg(test)]
 mod memory;
 #[cfg(test)]
+mod playing;
+#[cfg(test)]
 mod scratch;

@@ -2,11 +2,11 @@
 ghost use Rattle.std.specs.Prelude.{◌<◌, IfOk};
 
 use geo_base::RegionNo;
-use geo_io::{ByteList, CleanKeepers, Entries};
+use geo_io::{ByteList, CleanKeepers, Entries, Fail, MemKeepers};
 use geo_schema::Schema;
 use geo_script::{Form, read_script};
 use std::alloc::Global;
-use std::test::Fail;
+use std::test;
 
 /// The schema of all logs here.
 const LINES: &str = "\
@@ -17,22 +17,22 @@ begin
 ";
 
 /// A table of accounts, with a number as their key and another number.
-pub fn accounts(alloc: Global) -> Result<Schema, Fail> {
+pub fn accounts(alloc: Global) -> Result<Schema, test::Fail> {
     Ok(read_script(alloc, LINES.as_bytes(), Form::Play)?.schema)
 }
 
 /// The bytes of the digits.
-pub fn bytes_of(alloc: Global, digits: &str) -> Result<Vec<u8>, Fail> {
+pub fn bytes_of(alloc: Global, digits: &str) -> Result<Vec<u8>, test::Fail> {
     Ok(hex::decode(alloc, digits)?)
 }
 
-fn entry_of(alloc: Global, word: &str) -> Result<ByteList, Fail> {
+fn entry_of(alloc: Global, word: &str) -> Result<ByteList, test::Fail> {
     let digits = if word == "-" { "" } else { word };
     Ok(ByteList::new(bytes_of(alloc, digits)?))
 }
 
 /// The entries of the words.
-fn entries_of(alloc: Global, words: &str) -> Result<Entries, Fail> {
+fn entries_of(alloc: Global, words: &str) -> Result<Entries, test::Fail> {
     let mut entries = Vec::new(alloc);
     for word in words.split_whitespace() {
         entries.push(entry_of(alloc, word)?)?;
@@ -42,7 +42,11 @@ fn entries_of(alloc: Global, words: &str) -> Result<Entries, Fail> {
 
 /// Keepers in which the region, which is 0 or 1, has these entries, and the other one has an entry that is no
 /// batch.
-pub fn keepers_of(alloc: Global, region: RegionNo, words: &str) -> Result<CleanKeepers, Fail> {
+pub fn keepers_of(
+    alloc: Global,
+    region: RegionNo,
+    words: &str,
+) -> Result<CleanKeepers, test::Fail> {
     let (zero, one) = if region == 0 {
         (words, "ff")
     } else {
@@ -54,8 +58,30 @@ pub fn keepers_of(alloc: Global, region: RegionNo, words: &str) -> Result<CleanK
     Ok(CleanKeepers::new(alloc, lists))
 }
 
+/// The calls of these numbers fail; where a `+` stands behind one that is an append, it keeps its entry.
+fn fails_of(alloc: Global, words: &str) -> Result<Vec<Fail>, test::Fail> {
+    let mut fails = Vec::new(alloc);
+    for word in words.split(' ') {
+        let (call, kept) = match word.strip_suffix('+') {
+            Some(call) => (call, true),
+            None => (word, false),
+        };
+        fails.push(Fail {
+            call: call.parse()?,
+            kept,
+        })?;
+    }
+    Ok(fails)
+}
+
+/// Keepers in which region 0 has these entries, and whose calls fail so.
+pub fn failing_keepers(alloc: Global, words: &str, fails: &str) -> Result<MemKeepers, test::Fail> {
+    let lists = vec![in alloc; entries_of(alloc, words)?]?;
+    Ok(MemKeepers::new(alloc, lists, fails_of(alloc, fails)?))
+}
+
 /// A number below 8.
-pub fn small(word: &str) -> Result<u8, Fail>
+pub fn small(word: &str) -> Result<u8, test::Fail>
     ensures { IfOk result (λ number. number < 8) }
 {
     let number: u8 = word.parse()?;

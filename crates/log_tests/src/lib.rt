@@ -1,11 +1,13 @@
 //! Tests of logs and of inboxes.
 //!
-//! They use only what `own_log` and `epoch_inbox` offer, over keepers in memory that never fail. What is
+//! They use only what `own_log` and `epoch_inbox` offer, over keepers in memory. What is
 //! wanted is worked by hand from the forms of the bytes.
 #![tactic(auto)]
 
 #[cfg(test)]
 mod arrivals;
+#[cfg(test)]
+mod failing;
 #[cfg(test)]
 mod keeping;
 #[cfg(test)]

@@ -3,6 +3,7 @@ use Rattle.std.proofs.Common.{◌≡◌, ℕ, ◌+◌, ◌<◌, List, [], ◌∷
 use Rattle.std.specs.Prelude.{IfSome, IfOk, IfErr, IsErrOf}
 use Rattle.std.proofs.lemmas.List.{take_more, take_all, length-take-le}
 use Rattle.geo_base.specs.Results.{Reads, Refuses}
+use Rattle.geo_base.specs.laws.Results.{fault_is}
 use Rattle.geo_io.specs.Told.{Lists, list_of}
 use Rattle.geo_io.specs.declared.fault.IoFault.{IoFault}
 use Rattle.geo_io.specs.declared.fault.IoFault.TheVariants as io
@@ -15,14 +16,37 @@ use Rattle.own_log.specs.declared.fault.EntryFault.TheVariants.{Codec, Region, E
 use Rattle.own_log.specs.declared.fault.LoadFault.{LoadFault}
 use Rattle.own_log.specs.declared.fault.LoadFault.TheVariants as load
 use Rattle.own_log.specs.Logs.{IsEntry, IsEntryFault, SpellsFrom, SpellsLog, IsLogFault, IsBadLog, IsOfLog, AreOfLogFrom}
-use Rattle.own_log.specs.inner.Faults.{load_fault, blamed, NamesEntry, NamesFirst}
+use Rattle.own_log.specs.inner.Faults.{load_fault, blamed, NamesEntry, NamesFirst, NamesNoWant}
 use Rattle.own_log.specs.laws.Logs.{spells_more, of_log_more, logs_same, log_or_bad, bad_logs_same}
+
+-- ---- want of memory
+
+pub blamed_no_want : (place : ℕ) (fault : EntryFault) → NamesNoWant (blamed place fault)
+blamed_no_want place (Codec codec.NoMemory) = tt
+blamed_no_want place (Codec (codec.Short at)) = tt
+blamed_no_want place (Codec (codec.BadTag at)) = tt
+blamed_no_want place (Codec (codec.BadUtf8 at)) = tt
+blamed_no_want place (Codec (codec.NotOrdered at)) = tt
+blamed_no_want place (Codec (codec.BadRow at)) = tt
+blamed_no_want place (Codec (codec.BadStart at)) = tt
+blamed_no_want place (Codec (codec.OverLimit at limit)) = tt
+blamed_no_want place (Codec (codec.Trailing at)) = tt
+blamed_no_want place (Region other) = tt
+blamed_no_want place (Epoch epoch) = tt
+
+pub io_no_want : (fault : IoFault) → NamesNoWant (load_fault fault)
+io_no_want io.Failed = tt
+io_no_want io.NoMemory = tt
+
+pub named_no_want : {X : Type 0} (r : Result X LoadFault) → IfErr r NamesNoWant → (entry : ℕ) → IsErrOf r (load.BadLog entry (Codec codec.NoMemory)) → ⊥
+named_no_want {X} (Ok x) h entry e = absurd cc
+named_no_want {X} (Err fault) h entry e = subst NamesNoWant (fault_is {A = X} fault (load.BadLog entry (Codec codec.NoMemory)) e) h
 
 module _ (tables : Tables) (regions region : ℕ) where
   -- ---- one entry
 
   pub entry_of_log : (place : ℕ) (bytes : List ℕ) (batch : Batch) → IsEntry tables regions region place bytes batch → IsOfLog tables regions region place batch
-  entry_of_log place bytes batch h = record { fits = h.spelled.0; own = h.own; next = h.next }
+  entry_of_log place bytes batch h = record { fits = h.spelled.0; region = h.region; epoch = h.epoch }
 
   of_codec : (place : ℕ) (bytes : List ℕ) (fault : CodecFault) → (Codec fault ≡ Codec codec.NoMemory) ⊎ IsEntryFault tables regions region place bytes (Codec fault) →
       NamesEntry tables regions region place bytes (blamed place (Codec fault))

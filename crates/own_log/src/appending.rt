@@ -1,5 +1,5 @@
 //! One entry of a log: appended, or read.
-ghost use Rattle.std.specs.Prelude.{◌≡◌, ℕ, ◌-◌, ◌<◌, ◌≤◌, [], length, slice_index_or, IfOk, OnOk, IfSome, IsErrOf};
+ghost use Rattle.std.specs.Prelude.{◌≡◌, ◌⊎◌, ℕ, ◌-◌, ◌<◌, ◌≤◌, [], length, slice_index_or, IfOk, OnOk, IfSome, IsErrOf};
 ghost use Rattle.geo_io.specs.Causes.{HasCauseOf};
 ghost use Rattle.geo_io.specs.Told.{list_of, Gains, MayGain, Moves};
 ghost use Rattle.set_codec.specs.Alone.{SpellsBatch};
@@ -18,7 +18,8 @@ use write_set::Batch;
 /// Puts a batch at the end of its region's log: the list gains its GGB2 spelling, from which it is read back.
 ///
 /// [`LogAppendFault::LogFault`] comes only where the keepers' count of faults rose, and the list may then have
-/// gained the entry; with [`LogAppendFault::NoMemory`] it is as it was. Costs a step for each byte, and one
+/// gained the entry; with [`LogAppendFault::NoMemory`] it is as it was. The keepers are asked unless there was no
+/// memory, and then what they tell has a list for each region. Costs a step for each byte, and one
 /// append of the keepers.
 #[tactic(auto, using(crate::proofs::Spelled::spelled_alone))]
 pub fn append<L: Keepers>(
@@ -34,6 +35,7 @@ pub fn append<L: Keepers>(
     ensures failed { IsErrOf result LogAppendFault.LogFault →
         Moves (MayGain batch.now.region (batch_spelling Ggb2 schema.now batch.now)) (L.lists logs.old) (L.lists logs.new) }
     ensures no_memory { IsErrOf result LogAppendFault.NoMemory → L.lists logs.new ≡ L.lists logs.old }
+    ensures told { IsErrOf result LogAppendFault.NoMemory ⊎ IfSome (L.lists logs.old) (λ all. length all ≡ L.width logs.old) }
     ensures width { L.width logs.new ≡ L.width logs.old }
     ensures cause { HasCauseOf LogAppendFault.LogFault (L.faults logs.old) (L.faults logs.new) result }
 {
@@ -57,6 +59,7 @@ pub fn entry<L: Keepers>(
     requires last { IfSome (L.lists logs.old) (λ all. epoch ≤ length (list_of all region)) }
     ensures bytes { IfOk result (λ bytes. IfSome (L.lists logs.old)
         (λ all. bytes.items ≡ slice_index_or (list_of all region) (epoch - 1) [])) }
+    ensures told { IfSome (L.lists logs.old) (λ all. length all ≡ L.width logs.old) }
     ensures lists { L.lists logs.new ≡ L.lists logs.old }
     ensures width { L.width logs.new ≡ L.width logs.old }
     ensures cause { HasCauseOf LogAppendFault.LogFault (L.faults logs.old) (L.faults logs.new) result }

@@ -26,7 +26,7 @@ pub enum EntryFault {
     Codec(CodecFault),
     /// It is a batch of this other region.
     Region(RegionNo),
-    /// It is a batch of the region, but of this epoch, which isn't the one behind its place.
+    /// It is a batch of the region, but of this epoch, which isn't one greater than its place.
     Epoch(Epoch),
 }
 

@@ -7,7 +7,7 @@ ghost use Rattle.geo_io.specs.Told.{list_of};
 ghost use Rattle.set_codec.specs.declared.fault.CodecFault.TheVariants as codec;
 ghost use Rattle.own_log.specs.Logs.{IsEntry, IsEntryFault, IsOfLog, SpellsLog, IsLogFault, IsBadLog, AreOfLog};
 ghost use Rattle.own_log.specs.declared.fault.EntryFault.{EntryFault};
-ghost use Rattle.own_log.specs.inner.Faults.{blamed, NamesEntry, NamesFirst};
+ghost use Rattle.own_log.specs.inner.Faults.{blamed, NamesEntry, NamesFirst, NamesNoWant};
 
 use crate::fault::{EntryFault, LoadFault};
 use geo_base::RegionNo;
@@ -17,7 +17,7 @@ use set_codec::{CodecFault, read_batch};
 use std::alloc::Global;
 use write_set::Batch;
 
-/// The batch that an entry spells, which has to be of the region and of the epoch behind the place.
+/// The batch that an entry spells, which has to be of the region and of the epoch that is one greater than the place.
 fn read_entry(
     alloc: Global,
     schema: &Schema,
@@ -52,7 +52,7 @@ fn blamed(entry: u64, fault: EntryFault) -> LoadFault
 }
 
 /// The batch of the entry at a place.
-#[tactic(auto, using(crate::proofs::Loaded::names_io, crate::proofs::Loaded::names_told, crate::proofs::Loaded::entry_told, crate::proofs::Loaded::entry_of_log))]
+#[tactic(auto, using(crate::proofs::Loaded::names_io, crate::proofs::Loaded::names_told, crate::proofs::Loaded::entry_told, crate::proofs::Loaded::entry_of_log, crate::proofs::Loaded::io_no_want, crate::proofs::Loaded::blamed_no_want))]
 fn load_entry<L: Keepers>(
     alloc: Global,
     logs: &mut L,
@@ -70,6 +70,8 @@ fn load_entry<L: Keepers>(
     ensures of_log { IfOk result (IsOfLog schema.now regions region place) }
     ensures fault { IfErr result (λ e. IfSome (L.lists logs.old)
         (λ all. NamesEntry schema.now regions region place (slice_index_or (list_of all region) place []) e)) }
+    ensures no_want { IfErr result NamesNoWant }
+    ensures told { IfSome (L.lists logs.old) (λ all. length all ≡ L.width logs.old) }
     ensures lists { L.lists logs.new ≡ L.lists logs.old }
     ensures width { L.width logs.new ≡ L.width logs.old }
     ensures cause { HasCauseOf LoadFault.LogFault (L.faults logs.old) (L.faults logs.new) result }
@@ -96,6 +98,8 @@ fn load_entries<L: Keepers>(
     ensures of_log { IfOk result (λ batches. AreOfLog schema.now regions region batches.items) }
     ensures fault { IfErr result (λ e. IfSome (L.lists logs.old)
         (λ all. NamesFirst schema.now regions region (list_of all region) e)) }
+    ensures no_want { IfErr result NamesNoWant }
+    ensures told { IfSome (L.lists logs.old) (λ all. length all ≡ L.width logs.old) }
     ensures lists { L.lists logs.new ≡ L.lists logs.old }
     ensures width { L.width logs.new ≡ L.width logs.old }
     ensures cause { HasCauseOf LoadFault.LogFault (L.faults logs.old) (L.faults logs.new) result }
@@ -115,9 +119,9 @@ fn load_entries<L: Keepers>(
 /// Where the keepers tell the list, a batch is answered for each entry, and these are the only batches that
 /// the list spells; [`LoadFault::BadLog`] names the first entry that is none, with its fault, and comes exactly
 /// where there is one. Where they tell nothing, which entries they gave isn't known, and so neither is
-/// where `BadLog` comes from; but what is answered may still be a log of the region. Instead of these answers,
-/// [`LoadFault::LogFault`] may come, where the keepers' count of faults rose, and [`LoadFault::NoMemory`].
-/// The lists stay as they are.
+/// where `BadLog` comes from, but that it never names want of memory; and what is answered may still be a log of
+/// the region. Instead of these answers, [`LoadFault::LogFault`] may come, where the keepers' count of faults
+/// rose, and [`LoadFault::NoMemory`]. The lists stay as they are.
 ///
 /// Costs one read of the keepers for each entry up to the first bad one, and a step for each of its bytes: no
 /// entry is read twice.
@@ -136,9 +140,11 @@ pub fn load_log<L: Keepers>(
         ⊎ Reads LoadFault.NoMemory (λ batches. batches.items) result (SpellsLog schema.now regions region (list_of all region))) }
     ensures bad { (entry : ℕ) (fault : EntryFault) → IsErrOf result (LoadFault.BadLog entry fault) →
         IfSome (L.lists logs.old) (λ all. IsLogFault schema.now regions region (list_of all region) entry fault) }
+    ensures no_want { (entry : ℕ) → IsErrOf result (LoadFault.BadLog entry (EntryFault.Codec codec.NoMemory)) → ⊥ }
     ensures refused { IfSome (L.lists logs.old) (λ all. IsErrOf result LoadFault.LogFault
         ⊎ Refuses LoadFault.NoMemory result (IsBadLog schema.now regions region (list_of all region))) }
     ensures of_log { IfOk result (λ batches. AreOfLog schema.now regions region batches.items) }
+    ensures told { IfSome (L.lists logs.old) (λ all. length all ≡ L.width logs.old) }
     ensures lists { L.lists logs.new ≡ L.lists logs.old }
     ensures width { L.width logs.new ≡ L.width logs.old }
     ensures cause { HasCauseOf LoadFault.LogFault (L.faults logs.old) (L.faults logs.new) result }

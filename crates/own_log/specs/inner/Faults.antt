@@ -38,3 +38,10 @@ abbrev pub NamesFirst : Tables → ℕ → ℕ → List (List ℕ) → LoadFault
 NamesFirst tables regions region entries (load.BadLog entry fault) = IsLogFault tables regions region entries entry fault
 NamesFirst tables regions region entries load.LogFault = Unit {0}
 NamesFirst tables regions region entries load.NoMemory = Unit {0}
+
+-- a fault that names an entry doesn't do so for want of memory
+abbrev pub NamesNoWant : LoadFault → Type 0
+NamesNoWant (load.BadLog entry (Codec codec.NoMemory)) = ⊥
+NamesNoWant (load.BadLog entry fault) = Unit {0}
+NamesNoWant load.LogFault = Unit {0}
+NamesNoWant load.NoMemory = Unit {0}

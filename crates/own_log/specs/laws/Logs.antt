@@ -1,6 +1,6 @@
 -- Laws: entries spell one log or have one first bad entry, and a log grows at its end.
 use Rattle.std.proofs.Common.{◌≡◌, ℕ, zero, suc, ◌+◌, ◌<◌, ◌≤◌, List, [], ◌∷◌, ◌++◌, length, take, get_or, Ok, Err, refl, sym, ◌∙◌, ap, subst, ◌⊎◌, inl, inr, arith}
-use Rattle.std.specs.List.{AllByRecursion}
+use Rattle.std.specs.List.{AllByRecursion, slice_get}
 use Rattle.std.proofs.lemmas.Bool.{cases_eq}
 use Rattle.std.proofs.lemmas.List.Elements.{recursion_from_All}
 use Rattle.geo_base.specs.declared.limits.TheConstants.{MAX_REGIONS}
@@ -8,17 +8,18 @@ use Rattle.geo_base.specs.laws.Results.{ok_is, fault_is, not_done}
 use Rattle.geo_schema.specs.Schemas.{Tables, IsSchema}
 use Rattle.row_codec.specs.Places.{AreBytes}
 use Rattle.write_set.specs.declared.batch.Batch.{Batch}
+use Rattle.write_set.specs.Journal.{IsBatch}
 use Rattle.set_codec.specs.declared.fault.CodecFault.{CodecFault}
 use Rattle.set_codec.specs.Alone.{SpellsBatch}
 use Rattle.set_codec.specs.Faults.{IsBatchFault}
 use Rattle.set_codec.specs.inner.Reading.{batch_at}
 use Rattle.set_codec.specs.laws.Batches.{batch_tells, spelled_last, one_batch}
-use Rattle.std.specs.Prelude.{None}
+use Rattle.std.specs.Prelude.{None, Some}
 use Rattle.own_log.specs.declared.fault.EntryFault.{EntryFault}
 use Rattle.own_log.specs.declared.fault.EntryFault.TheVariants.{Codec, Region, Epoch}
 use Rattle.own_log.specs.declared.fault.LoadFault.{LoadFault}
 use Rattle.own_log.specs.declared.fault.LoadFault.TheVariants as load
-use Rattle.own_log.specs.Logs.{IsEntry, SpellsFrom, SpellsLog, IsEntryFault, IsLogFault, IsBadLog, IsOfLog, AreOfLogFrom, OneLogOrFault, AppendedEntriesAreRead}
+use Rattle.own_log.specs.Logs.{IsEntry, SpellsFrom, SpellsLog, IsEntryFault, IsLogFault, IsBadLog, IsOfLog, AreOfLogFrom, OneLogOrFault, AppendedEntriesAreRead, EntriesSpellTheirPlaces, BatchesAreOfTheirPlaces}
 
 -- ---- at the end
 
@@ -42,6 +43,52 @@ module _ (tables : Tables) (regions region : ℕ) where
 pub appended_is_read : AppendedEntriesAreRead
 appended_is_read tables regions region entries batches bytes batch before here =
     spells_more tables regions region 0 entries batches bytes batch before (subst (λ (p : ℕ). IsEntry tables regions region p bytes batch) (omega arith) here)
+
+-- ---- by place
+
+some_is : {A : Type 0} (a b : A) → Some a ≡ Some b → a ≡ b
+some_is a b e = cc
+
+module _ (tables : Tables) (regions region : ℕ) where
+  spells_length : (place : ℕ) (entries : List (List ℕ)) (batches : List Batch) → SpellsFrom tables regions region place entries batches → length entries ≡ length batches
+  spells_length place [] [] h = refl
+  spells_length place [] (b ∷ batches) h = absurd h
+  spells_length place (e ∷ entries) [] h = absurd h
+  spells_length place (e ∷ entries) (b ∷ batches) h = ap (λ (n : ℕ). suc n) (spells_length (place + 1) entries batches h.1)
+
+  entry_at : (place : ℕ) (entries : List (List ℕ)) (batches : List Batch) (at : ℕ) (bytes : List ℕ) (batch : Batch) → SpellsFrom tables regions region place entries batches →
+      slice_get entries at ≡ Some bytes → slice_get batches at ≡ Some batch → IsEntry tables regions region (place + at) bytes batch
+  entry_at place [] [] at bytes batch h p q = absurd cc
+  entry_at place [] (b ∷ batches) at bytes batch h p q = absurd h
+  entry_at place (e ∷ entries) [] at bytes batch h p q = absurd h
+  entry_at place (e ∷ entries) (b ∷ batches) zero bytes batch h p q =
+      subst (λ (x : List ℕ). IsEntry tables regions region (place + 0) x batch) (some_is e bytes p)
+      (subst (λ (x : Batch). IsEntry tables regions region (place + 0) e x) (some_is b batch q)
+      (subst (λ (n : ℕ). IsEntry tables regions region n e b) (omega arith) h.0))
+  entry_at place (e ∷ entries) (b ∷ batches) (suc at) bytes batch h p q =
+      subst (λ (n : ℕ). IsEntry tables regions region n bytes batch) (omega arith) (entry_at (place + 1) entries batches at bytes batch h.1 p q)
+
+  of_log_at : (place : ℕ) (batches : List Batch) (at : ℕ) (batch : Batch) → AreOfLogFrom tables regions region place batches → slice_get batches at ≡ Some batch →
+      IsOfLog tables regions region (place + at) batch
+  of_log_at place [] at batch h q = absurd cc
+  of_log_at place (b ∷ batches) zero batch h q =
+      subst (λ (x : Batch). IsOfLog tables regions region (place + 0) x) (some_is b batch q) (subst (λ (n : ℕ). IsOfLog tables regions region n b) (omega arith) h.0)
+  of_log_at place (b ∷ batches) (suc at) batch h q =
+      subst (λ (n : ℕ). IsOfLog tables regions region n batch) (omega arith) (of_log_at (place + 1) batches at batch h.1 q)
+
+pub spelled_by_place : EntriesSpellTheirPlaces
+spelled_by_place tables regions region entries batches h = record {
+  all = spells_length tables regions region 0 entries batches h;
+  each = λ place bytes batch p q. subst (λ (n : ℕ). IsEntry tables regions region n bytes batch) (omega arith) (entry_at tables regions region 0 entries batches place bytes batch h p q);
+}
+
+pub of_log_by_place : BatchesAreOfTheirPlaces
+of_log_by_place tables regions region batches place batch h q =
+    let of : IsOfLog tables regions region place batch = subst (λ (n : ℕ). IsOfLog tables regions region n batch) (omega arith) (of_log_at tables regions region 0 batches place batch h q) in
+    record {
+      of_log = of;
+      lawful = subst (λ (n : ℕ). IsBatch n (place + 1) batch) of.region (subst (λ (n : ℕ). IsBatch batch.region n batch) of.epoch of.fits.fits.lawful);
+    }
 
 module _ (tables : Tables) (regions region : ℕ) (schema : IsSchema tables) where
   -- ---- one batch, or one fault of a batch
@@ -67,10 +114,10 @@ module _ (tables : Tables) (regions region : ℕ) (schema : IsSchema tables) whe
   entry_or_fault place bytes batch (Codec fault) p h = batch_or_fault bytes batch fault p.spelled h
   entry_or_fault place bytes batch (Region other) p (b, s, is, apart) =
       let same : b ≡ batch = batches_same bytes b batch s p.spelled in
-      apart (sym is ∙ ap (λ (x : Batch). x.region) same ∙ p.own)
+      apart (sym is ∙ ap (λ (x : Batch). x.region) same ∙ p.region)
   entry_or_fault place bytes batch (Epoch epoch) p (b, s, own, is, apart) =
       let same : b ≡ batch = batches_same bytes b batch s p.spelled in
-      apart (sym is ∙ ap (λ (x : Batch). x.epoch) same ∙ p.next)
+      apart (sym is ∙ ap (λ (x : Batch). x.epoch) same ∙ p.epoch)
 
   entry_faults_same : (place : ℕ) (bytes : List ℕ) (e f : EntryFault) → IsEntryFault tables regions region place bytes e → IsEntryFault tables regions region place bytes f → e ≡ f
   entry_faults_same place bytes (Codec e) (Codec f) p q = ap Codec (faults_same bytes e f p q)
@@ -92,7 +139,7 @@ module _ (tables : Tables) (regions region : ℕ) (schema : IsSchema tables) whe
   some_entry place bytes within are = elim (one_batch tables regions bytes schema within are).some [
     | inl s ↦ elim (cases_eq s.0.region region) [
       | inl own ↦ elim (cases_eq s.0.epoch (place + 1)) [
-        | inl next ↦ inl (s.0, record { spelled = s.1; own = own; next = next })
+        | inl next ↦ inl (s.0, record { spelled = s.1; region = own; epoch = next })
         | inr apart ↦ inr (Epoch s.0.epoch, (s.0, s.1, own, refl, apart))
       ]
       | inr apart ↦ inr (Region s.0.region, (s.0, s.1, refl, apart))

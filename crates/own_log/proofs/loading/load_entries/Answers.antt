@@ -19,3 +19,8 @@ loop-place-preserved g c = record {
   width = c.load_entry.ensures.width ∙ c.loop-place.invariant.width;
   later = omega (arith, c.load_entry.ensures.cause.later, c.loop-place.invariant.later);
 }
+
+pub returns-in_err-batch-clause-no_want : goal.returns-in_err-batch-clause-no_want
+returns-in_err-batch-clause-no_want g c =
+    let p = err_from_is_err_and c.from_residual-in_err-batch.result c.from_residual-in_err-batch.ensures.1 in
+    rw (p.1, p.2) c.in_err-batch.ensures.no_want
