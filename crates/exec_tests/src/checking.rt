@@ -5,7 +5,7 @@ ghost use Rattle.write_set.specs.Overlay.{overlay};
 
 use crate::asking::answer;
 use crate::counted::Counted;
-use crate::laying::laid;
+use crate::laying::lay_over;
 use crate::nets::net_of;
 use crate::rows::{are_rows, rows_of};
 use crate::tables::schema_of;
@@ -76,7 +76,7 @@ fn source_of<'a>(
     ensures rows { IfOk result (λ source. AreRowsOf schema.entry.now source.list.rows) }
     ensures laid { IfOk result (λ source. source.list.rows ≡ overlay source.list.base own.now) }
 {
-    let laid = laid(alloc, rows_of(alloc, schema, rows)?, own)?;
+    let laid = lay_over(alloc, rows_of(alloc, schema, rows)?, own)?;
     if !are_rows(alloc, schema, laid.rows.as_slice())? {
         return Err("a net of other rows".into());
     }

@@ -27,7 +27,7 @@ struct Twice {
     rows: Images,
 }
 
-fn twice(alloc: Global, rows: Vec<RowImageAt>) -> Result<Twice, NoMemory>
+fn images_twice(alloc: Global, rows: Vec<RowImageAt>) -> Result<Twice, NoMemory>
     ensures { IfOk result (λ t. t.base.entries ≡ t.rows.entries) }
 {
     let mut base = BTreeMap::new(alloc);
@@ -85,12 +85,12 @@ fn listed(alloc: Global, images: Images) -> Result<Vec<RowImageAt>, NoMemory>
 }
 
 /// The rows, and with the net laid over them.
-pub fn laid(alloc: Global, rows: Vec<RowImageAt>, own: &WriteSet) -> Result<Laid, NoMemory>
+pub fn lay_over(alloc: Global, rows: Vec<RowImageAt>, own: &WriteSet) -> Result<Laid, NoMemory>
     ensures laid { IfOk result (λ l. table_of l.rows.items ≡ overlay (table_of l.base.items) own.now) }
     ensures base { IfOk result (λ l. Rises (table_of l.base.items)) }
     ensures rows { IfOk result (λ l. Rises (table_of l.rows.items)) }
 {
-    let mut twice = twice(alloc, rows)?;
+    let mut twice = images_twice(alloc, rows)?;
     make_all(alloc, &mut twice.rows, own.changes())?;
     let base = listed(alloc, twice.base)?;
     let rows = listed(alloc, twice.rows)?;
