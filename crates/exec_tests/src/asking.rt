@@ -210,7 +210,7 @@ fn deleted<L: Ledger>(
 }
 
 /// Whether the statement is one that is bound.
-fn is_of_tables(statement: &Statement) -> bool
+pub fn is_of_tables(statement: &Statement) -> bool
     ensures { result ≡ statements.is_of_tables statement.now }
 {
     match statement {
@@ -220,7 +220,8 @@ fn is_of_tables(statement: &Statement) -> bool
     }
 }
 
-fn statement_of(alloc: Global, text: &str) -> Result<Statement, Fail> {
+/// The statement of a text, which isn't long.
+pub fn statement_of(alloc: Global, text: &str) -> Result<Statement, Fail> {
     if text.len() > 10_000 {
         return Err("a long text".into());
     }

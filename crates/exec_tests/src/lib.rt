@@ -17,6 +17,8 @@ mod counted;
 #[cfg(test)]
 mod deletes;
 #[cfg(test)]
+mod explains;
+#[cfg(test)]
 mod faults;
 #[cfg(test)]
 mod inserts;

@@ -1,8 +1,9 @@
 //! Tables as texts: `NAME|COLUMNS|KEY|INDEXES`, one a line.
 //!
 //! Columns have commas between them, and each is its name and, behind a space, `i` for numbers, `b` for truth values or
-//! `t` for texts of at most 20 bytes, and a capital letter where it isn't null. A place is one digit. An index is its places, which are its name too, and indexes
-//! have commas between them.
+//! `t` for texts of at most 20 bytes, and a capital letter where it isn't null. A place is one digit, or a letter from `a`
+//! for 10 on. An index is its name, a space and its places; without a name these are its name too. Indexes have commas
+//! between them.
 use geo_base::Txt;
 use geo_schema::{ColumnDef, ColumnList, IndexDef, IndexList, Kind, PlaceList, Schema, TableDef};
 use std::alloc::Global;
@@ -33,17 +34,29 @@ fn columns_of(alloc: Global, texts: &str) -> Result<ColumnList, Fail> {
     Ok(ColumnList::new(columns))
 }
 
+fn place_of(digit: u8) -> u8 {
+    if digit < b'a' {
+        digit.wrapping_sub(b'0')
+    } else {
+        digit - b'a' + 10
+    }
+}
+
 fn places_of(alloc: Global, digits: &str) -> Result<PlaceList, Fail> {
     let mut places = Vec::new(alloc);
     for digit in digits.as_bytes() {
-        places.push(digit.wrapping_sub(b'0'))?;
+        places.push(place_of(*digit))?;
     }
     Ok(PlaceList::new(places))
 }
 
-fn index_of(alloc: Global, digits: &str) -> Result<IndexDef, Fail> {
+fn index_of(alloc: Global, text: &str) -> Result<IndexDef, Fail> {
+    let (name, digits) = match text.split_once(' ') {
+        Some(parts) => parts,
+        None => (text, text),
+    };
     Ok(IndexDef {
-        name: Txt::new(alloc, digits)?,
+        name: Txt::new(alloc, name)?,
         columns: places_of(alloc, digits)?,
     })
 }
@@ -51,8 +64,8 @@ fn index_of(alloc: Global, digits: &str) -> Result<IndexDef, Fail> {
 fn indexes_of(alloc: Global, text: &str) -> Result<IndexList, Fail> {
     let mut indexes = Vec::new(alloc);
     if !text.is_empty() {
-        for digits in text.split(',') {
-            indexes.push(index_of(alloc, digits)?)?;
+        for index in text.split(',') {
+            indexes.push(index_of(alloc, index)?)?;
         }
     }
     Ok(IndexList::new(indexes))
