@@ -18,8 +18,8 @@ one_more tables rows more at all fits is =
 -- the rows up to the next place
 pub one_further : (tables : Tables) (rows : List RowImageAt) (i : ℕ) (at : RowImageAt) (b : Bool) → i < length rows → at ≡ get_or rows i at → (b ≡ true → Fits tables (entry_of at)) →
     b ≡ true → All (Fits tables) (table_of (take i rows)) → All (Fits tables) (table_of (take (i + 1) rows))
-one_further tables rows i at b within is fits yes all =
-    one_more tables (take i rows) (take (i + 1) rows) at all (fits yes)
+one_further tables rows i at b within is fits met all =
+    one_more tables (take i rows) (take (i + 1) rows) at all (fits met)
     (take_more rows i at within ∙ ap (λ (a : RowImageAt). take i rows ++ a ∷ []) (sym is))
 
 pub no_further : (tables : Tables) (rows : List RowImageAt) (i : ℕ) → length rows ≤ i → All (Fits tables) (table_of (take i rows)) → All (Fits tables) (table_of rows)

@@ -13,13 +13,14 @@ use write_set::{Change, RowChange, WriteSet};
 
 /// The change of a line: a sign, and the row as a row is written.
 fn change_of(sign: &str, at: RowImageAt) -> RowChange {
+    let RowImageAt { row, image } = at;
     let change = match sign {
-        "+" => Change::Put(at.image),
+        "+" => Change::Put(image),
         "-" => Change::Remove,
         _ => Change::Touch,
     };
     RowChange {
-        row: at.row,
+        row,
         before: true,
         change,
     }
