@@ -1,9 +1,10 @@
 //! Batches as bytes: one worked batch, faults with their places, limits, and bytes of any kind.
-use crate::bytes::{bytes_of, marked};
-use crate::printing::{batch_text, is_answer};
-use crate::tables::{schema_named, two_tables};
+use crate::bytes::marked;
+use crate::printing::batch_text;
+use crate::tables::two_tables;
+use crate::told::{Form, first_wrong};
 use geo_schema::Schema;
-use set_codec::{CodecFault, Limit, batch_bytes, batch_size, read_batch};
+use set_codec::{CodecFault, batch_bytes, batch_size, read_batch};
 use std::alloc::Global;
 use std::test::Fail;
 
@@ -23,14 +24,12 @@ start 3; 1(-1, '') -> ('', FALSE, -1); 1(0, 'a') removed";
 /// Whether the bytes of the batch, with this digit in their mark, are read as what it says, and what is read
 /// has its bytes in GGB2.
 fn is_worked_batch(alloc: Global, schema: &Schema, digit: u8) -> Result<bool, Fail> {
-    let batch = read_batch(alloc, schema, 3, &marked(alloc, &BATCH, digit)?)?;
-    let text = batch_text(alloc, &batch)?;
-    let spelled = batch_bytes(alloc, schema, &batch)?;
-    Ok(
-        text.as_str() == BATCH_TEXT
-            && batch_size(&batch) == 88
-            && spelled.as_slice() == BATCH.as_slice(),
-    )
+    let batch = read_batch(alloc, schema, 3, marked(alloc, &BATCH, digit)?.as_slice())?;
+    let size = batch_size(&batch);
+    let text = batch_text(alloc, &batch);
+    let spelled = batch_bytes(alloc, schema, &batch);
+    drop(batch);
+    Ok(size == 88 && text?.as_str() == BATCH_TEXT && spelled?.as_slice() == BATCH.as_slice())
 }
 
 #[test]
@@ -40,13 +39,6 @@ fn a_batch_is_read_in_both_formats(rt: HostRuntime) -> Result<(), Fail> {
         assert!(rt; is_worked_batch(rt.alloc(), &schema, digit)?);
     }
     Ok(())
-}
-
-/// What bytes are told that are to be a batch of the tables.
-fn told(alloc: Global, tables: &str, regions: u8, words: &str) -> Result<Option<CodecFault>, Fail> {
-    let schema = schema_named(alloc, tables)?;
-    let bytes = bytes_of(alloc, words)?;
-    Ok(read_batch(alloc, &schema, regions, &bytes).err())
 }
 
 /// The tables, the number of regions, bytes behind a mark, and what these are told in each of the two
@@ -105,22 +97,14 @@ unique 1 0 #1 #1 #0 #1 1 2 @1 => BadRow(21)
 unique 1 0 #1 #1 #0 #2 0 2 @1 64 2 2 0 1 97 => fits
 unique 1 0 #1 #1 #0 #2 64 2 2 0 1 97 0 2 @1 => NotOrdered(27)";
 
-/// Whether the bytes of the line, behind the mark, are told what the line says.
-fn is_told(alloc: Global, mark: &str, line: &str) -> Result<bool, Fail> {
-    let (bytes, want) = line.split_once(" => ").ok_or("a line without an answer")?;
-    let (tables, bytes) = bytes.split_once(' ').ok_or("a line without tables")?;
-    let (regions, words) = bytes.split_once(' ').ok_or("a line without regions")?;
-    let words = format!(in alloc; "{mark} {words}")?;
-    let told = told(alloc, tables, regions.parse()?, &words)?;
-    is_answer(alloc, told, want)
-}
-
 #[test]
 fn bytes_of_batches_are_told(rt: HostRuntime) -> Result<(), Fail> {
     for mark in ["GGB1", "GGB2"] {
-        for line in TOLD.lines() {
-            assert!(rt; is_told(rt.alloc(), mark, line)?, "{mark} {line}");
-        }
+        assert_eq!(rt;
+            first_wrong(rt.alloc(), Form::Batch, mark, TOLD)?,
+            None,
+            "{mark}"
+        );
     }
     Ok(())
 }
@@ -157,45 +141,57 @@ unique 1 GGB2 0 #1 #1 #0 #1 64 3 0 => BadRow(23)";
 
 #[test]
 fn touches_are_told_of_by_format(rt: HostRuntime) -> Result<(), Fail> {
-    for line in TOLD_OF_FORMATS.lines() {
-        assert!(rt; is_told(rt.alloc(), "", line)?, "{line}");
-    }
+    assert_eq!(rt;
+        first_wrong(rt.alloc(), Form::Batch, "", TOLD_OF_FORMATS)?,
+        None
+    );
     Ok(())
 }
 
-/// What a batch of so many candidates is told, each of which touches a row.
-fn told_of_many(alloc: Global, count: usize) -> Result<Option<CodecFault>, Fail> {
-    let candidates = " #0 #1 0 3 @1".repeat(alloc, count)?;
-    let words = format!(in alloc; "GGB2 0 #1 #{count}{}", candidates.as_str())?;
-    told(alloc, "numbers", 1, &words)
-}
+/// Batches of many candidates.
+const MANY: &str = "\
+numbers 1 GGB2 0 #1 #4096 *4096 => fits
+numbers 1 GGB2 0 #1 #4097 *4097 => OverLimit(9, Candidates)";
 
 #[test]
 fn batches_have_at_most_4096_candidates(rt: HostRuntime) -> Result<(), Fail> {
-    for (count, fault) in [
-        (4096, None),
-        (4097, Some(CodecFault::OverLimit(9, Limit::Candidates))),
-    ] {
-        assert_eq!(rt; told_of_many(rt.alloc(), count)?, fault, "{count}");
-    }
+    assert_eq!(rt; first_wrong(rt.alloc(), Form::Batch, "", MANY)?, None);
     Ok(())
 }
 
-fn told_of_cut(alloc: Global, schema: &Schema, cut: usize) -> Option<CodecFault> {
-    let front = BATCH.get(..cut)?;
-    read_batch(alloc, schema, 3, front).err()
+/// What is near batches whose bytes were worked with their digits: in GGB1 the first 13 bytes of a batch that puts a
+/// row; all of them and one more; its head with removals of the rows 2 and 1, in this order; and a batch with a touch,
+/// which GGB1 hasn't.
+const NEAR: &str = "\
+numbers 1 x47474231000000000100000001 => Short(13)
+numbers 1 x474742310000000001000000010000000000000001000101000000000000000101000000000000000a00 => Trailing(41)
+numbers 1 x47474231000000000100000001000000000000000200020100000000000000020002010000000000000001 => NotOrdered(32)
+numbers 1 x4747423100000000020000000100000001000000010003010000000000000001 => BadTag(22)";
+
+#[test]
+fn what_is_near_the_worked_batches_is_at_fault(rt: HostRuntime) -> Result<(), Fail> {
+    assert_eq!(rt; first_wrong(rt.alloc(), Form::Batch, "", NEAR)?, None);
+    Ok(())
+}
+
+/// Whether so many of the batch's first bytes are told that they are short.
+fn is_short(alloc: Global, schema: &Schema, cut: usize) -> bool {
+    match BATCH.get(..cut) {
+        Some(front) => { read_batch(alloc, schema, 3, front).err() == Some(CodecFault::Short(cut)) }
+        None => false,
+    }
 }
 
 #[test]
 fn a_cut_batch_is_short(rt: HostRuntime) -> Result<(), Fail> {
     let schema = two_tables(rt.alloc())?;
     for cut in 0..BATCH.len() {
-        let told = told_of_cut(rt.alloc(), &schema, cut);
-        assert_eq!(rt; told, Some(CodecFault::Short(cut)));
+        assert!(rt; is_short(rt.alloc(), &schema, cut), "{cut}");
     }
     Ok(())
 }
 
+/// What the batch with a byte behind it is told.
 fn told_of_longer(alloc: Global, schema: &Schema) -> Result<Option<CodecFault>, Fail> {
     let mut bytes = Vec::from_slice(alloc, &BATCH)?;
     bytes.push(0)?;
@@ -206,7 +202,7 @@ fn told_of_longer(alloc: Global, schema: &Schema) -> Result<Option<CodecFault>, 
 fn a_longer_batch_has_a_byte_behind_it(rt: HostRuntime) -> Result<(), Fail> {
     let schema = two_tables(rt.alloc())?;
     let told = told_of_longer(rt.alloc(), &schema)?;
-    assert_eq!(rt; told, Some(CodecFault::Trailing(88)));
+    assert!(rt; told == Some(CodecFault::Trailing(88)));
     Ok(())
 }
 

@@ -1,70 +1,63 @@
-//! Tables as lines of a script, as `table acc (id INT KEY, amount INT)`.
-use geo_base::{Duplicate, Txt};
+//! Tables as texts, as `acc (id INT KEY, amount INT)`.
+use geo_base::Txt;
 use geo_schema::{PlaceList, Schema, TableDef, UniqueDef};
-use geo_script::{Form, read_script};
+use schema_text::read_table;
 use std::alloc::Global;
 use std::test::Fail;
 
-/// The schema of the tables that the lines declare.
-pub fn schema_of(alloc: Global, lines: &str) -> Result<Schema, Fail> {
-    let text = format!(in alloc; "geogauss play 1\nregions 1\n{lines}\nbegin\n")?;
-    Ok(read_script(alloc, text.as_bytes(), Form::Play)?.schema)
-}
-
-/// The table with another order of the columns of its key, as no script declares it.
-fn with_key(alloc: Global, table: &TableDef, key: &[u8]) -> Result<TableDef, Fail> {
-    Ok(TableDef {
-        name: table.name.copy(alloc)?,
-        columns: table.columns.copy(alloc)?,
-        key: PlaceList::new(Vec::from_slice(alloc, key)?),
-        indexes: table.indexes.copy(alloc)?,
-    })
-}
-
-/// The tables that the lines declare, of each the key at the same place.
-fn tables_with_keys(alloc: Global, lines: &str, keys: &[&[u8]]) -> Result<Vec<TableDef>, Fail> {
-    let declared = schema_of(alloc, lines)?;
-    let mut tables = Vec::new(alloc);
-    for (no, key) in (0u8..).zip(keys.iter()) {
-        let table = declared.table(no).ok_or("a key of no table")?;
-        tables.push(with_key(alloc, table, key)?)?;
+fn table_of(alloc: Global, text: &str) -> Result<TableDef, Fail> {
+    if text.len() > 1000 {
+        return Err("a long text".into());
     }
-    Ok(tables)
+    Ok(read_table(alloc, text)?.ok_or("no table")?)
 }
 
-const TWO_TABLES: &str = "\
-table acc (id INT KEY, amount INT)
-table place (owner TEXT(8) KEY, open BOOL, no INT KEY)";
-
-/// Two tables, where the key of the second is its last column and then its first.
-pub fn two_tables(alloc: Global) -> Result<Schema, Fail> {
-    let tables = tables_with_keys(alloc, TWO_TABLES, &[&[0], &[2, 0]])?;
+/// The schema of a table.
+fn schema_of(alloc: Global, text: &str) -> Result<Schema, Fail> {
+    let tables = vec![in alloc; table_of(alloc, text)?]?;
     Ok(Schema::new(alloc, tables)?)
 }
 
-/// A table and a unique of its second column, so that there is a hidden table of the number 64: its key is a
-/// name, and behind it stands the key of the row with that name.
-fn with_unique(alloc: Global) -> Result<Schema, Fail> {
-    let tables = tables_with_keys(alloc, "table man (id INT KEY, name TEXT(8))", &[&[0]])?;
-    let unique = UniqueDef {
+/// A table whose key is its last column and then its first, as no text declares it.
+fn places(alloc: Global) -> Result<TableDef, Fail> {
+    let key = PlaceList::new(vec![in alloc; 2, 0]?);
+    let mut table = table_of(alloc, "place (owner TEXT(8) KEY, open BOOL, no INT KEY)")?;
+    table.key = key;
+    Ok(table)
+}
+
+/// Two tables, of which the second one is that of places.
+pub fn two_tables(alloc: Global) -> Result<Schema, Fail> {
+    let mut tables = Vec::new(alloc);
+    tables.push(table_of(alloc, "acc (id INT KEY, amount INT)")?)?;
+    tables.push(places(alloc)?)?;
+    Ok(Schema::new(alloc, tables)?)
+}
+
+/// A unique of the second column of the first table.
+fn one_name(alloc: Global) -> Result<UniqueDef, Fail> {
+    let columns = PlaceList::new(vec![in alloc; 1]?);
+    Ok(UniqueDef {
         name: Txt::new(alloc, "one_name")?,
         table: 0,
-        columns: PlaceList::new(Vec::from_slice(alloc, &[1])?),
-    };
-    let mut uniques = Vec::new(alloc);
-    uniques.push(unique)?;
+        columns,
+    })
+}
+
+/// A table and its unique, so that there is a hidden table of the number 64: its key is a name, and behind it stands
+/// the key of the row with that name.
+fn with_unique(alloc: Global) -> Result<Schema, Fail> {
+    let uniques = vec![in alloc; one_name(alloc)?]?;
+    let tables = vec![in alloc; table_of(alloc, "man (id INT KEY, name TEXT(8))")?]?;
     Ok(Schema::with_unique(alloc, tables, uniques)?)
 }
 
 /// The schema with the name.
 pub fn schema_named(alloc: Global, name: &str) -> Result<Schema, Fail> {
     match name {
-        "numbers" => schema_of(alloc, "table acc (id INT KEY, amount INT)"),
-        "texts" => schema_of(alloc, "table acc (id INT KEY, amount TEXT)"),
-        "narrow" => schema_of(
-            alloc,
-            "table acc (id INT KEY, amount INT NOT NULL, note TEXT(8))",
-        ),
+        "numbers" => schema_of(alloc, "acc (id INT KEY, amount INT)"),
+        "texts" => schema_of(alloc, "acc (id INT KEY, amount TEXT)"),
+        "narrow" => schema_of(alloc, "acc (id INT KEY, amount INT NOT NULL, note TEXT(8))"),
         "unique" => with_unique(alloc),
         _ => two_tables(alloc),
     }
