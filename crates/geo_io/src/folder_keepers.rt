@@ -11,9 +11,9 @@ use std::rt::Files;
 /// entry its length, as a big-endian number of four bytes, and its bytes. A file that isn't there is an empty
 /// list. An append writes behind the last whole entry and then syncs; it makes the file, and never the folder.
 ///
-/// A file is read when its region is first asked for, and again after a call that failed. What is found is synced
-/// before it is told. Where the file ends in the middle of an entry, it is cut to the entries that are whole, and
-/// synced again. From then on `len` reads nothing, and `read` its entry alone.
+/// A file is read when its region is first asked for, and anew after that, or writing an entry, has failed. What is
+/// found is synced before it is told. Where the file ends in the middle of an entry, it is cut to the entries that
+/// are whole, and synced again. From then on `len` reads nothing, and `read` its entry alone.
 ///
 /// What an append failed to write is cut off before the region is told of again; so the entry isn't kept, unless
 /// the program ends first: then the next one tells it where the file has all of it. A sync of what is found can't

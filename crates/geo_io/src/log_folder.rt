@@ -57,9 +57,9 @@ impl<R: Files> LogFolder<R> {
     }
 
     /// Writes an entry behind the others; one of more bytes than the limit is a fault. What needs memory comes
-    /// before the first byte is written. After an error nothing is known of the file. If it came while the entry
-    /// was written, then the next call cuts the entry off before it reads the file again: a second sync may go
-    /// well although the first one lost what was written. Where the cut fails, the call after that tries again.
+    /// before the first byte is written. After another error nothing is known of the file. If it came while the
+    /// entry was written, then the next call cuts the entry off before it reads the file again: a second sync may
+    /// go well although the first one lost what was written. Where the cut fails, the call after that tries again.
     pub(crate) fn append(&mut self, region: u8, bytes: &[u8]) -> Result<(), IoFault>
         requires { region < MAX_WIDTH }
     {

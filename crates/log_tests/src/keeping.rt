@@ -58,20 +58,18 @@ pub fn keepers_of(
     Ok(CleanKeepers::new(alloc, lists))
 }
 
-/// The calls of these numbers fail; where a `+` stands behind one that is an append, it keeps its entry.
+/// A call that fails, by its number of one digit, and behind it `+` where an append keeps its entry.
+fn fail_of(word: &str) -> Option<Fail> {
+    let call = *word.as_bytes().first()?;
+    Some(Fail {
+        call: u64::from(call.wrapping_sub(b'0')),
+        kept: word.ends_with('+'),
+    })
+}
+
 fn fails_of(alloc: Global, words: &str) -> Result<Vec<Fail>, test::Fail> {
-    let mut fails = Vec::new(alloc);
-    for word in words.split(' ') {
-        let (call, kept) = match word.strip_suffix('+') {
-            Some(call) => (call, true),
-            None => (word, false),
-        };
-        fails.push(Fail {
-            call: call.parse()?,
-            kept,
-        })?;
-    }
-    Ok(fails)
+    let fails = words.split(' ').filter_map(fail_of);
+    Ok(fails.collect(alloc)?)
 }
 
 /// Keepers in which region 0 has these entries, and whose calls fail so.

@@ -18,9 +18,9 @@ use write_set::Batch;
 /// Puts a batch at the end of its region's log: the list gains its GGB2 spelling, from which it is read back.
 ///
 /// [`LogAppendFault::LogFault`] comes only where the keepers' count of faults rose, and the list may then have
-/// gained the entry; with [`LogAppendFault::NoMemory`] it is as it was. The keepers are asked unless there was no
-/// memory, and then what they tell has a list for each region. Costs a step for each byte, and one
-/// append of the keepers.
+/// gained the entry; with [`LogAppendFault::NoMemory`] it is as it was. Unless there was no memory the keepers are
+/// asked, and then what they tell has a list for each region. Costs a step for each byte, and one append of the
+/// keepers.
 #[tactic(auto, using(crate::proofs::Spelled::spelled_alone))]
 pub fn append<L: Keepers>(
     alloc: Global,

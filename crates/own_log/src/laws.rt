@@ -25,7 +25,7 @@ pub fn batches_are_of_their_places()
     ensures { BatchesAreOfTheirPlaces }
 {}
 
-/// The files of a folder take entries of as many bytes as a batch has at most.
-pub fn entries_have_room_for_batches()
+/// The limit of an entry in the files of a folder is that of a batch.
+pub fn entries_have_the_limit_of_batches()
     ensures { MAX_ENTRY_BYTES ≡ MAX_BATCH_BYTES }
 {}

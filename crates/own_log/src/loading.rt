@@ -17,7 +17,8 @@ use set_codec::{CodecFault, read_batch};
 use std::alloc::Global;
 use write_set::Batch;
 
-/// The batch that an entry spells, which has to be of the region and of the epoch that is one greater than the place.
+/// The batch that an entry spells, which has to be of the region and of the epoch that is one greater than the
+/// place.
 fn read_entry(
     alloc: Global,
     schema: &Schema,
