@@ -3,10 +3,17 @@ use Rattle.std.proofs.Common.{◌≡◌, ℕ, ◌+◌, ◌<◌, ◌≤◌, Bool,
 use Rattle.std.specs.List.{All}
 use Rattle.std.proofs.lemmas.List.{map-append, take_all, take_more}
 use Rattle.std.proofs.lemmas.List.Elements.{All-nil, All-push}
+use Rattle.geo_base.specs.declared.cell.Cell.{Cell}
+use Rattle.geo_base.specs.Order.{cells_eq}
+use Rattle.geo_base.specs.laws.Orders.{cells_eq_decides}
 use Rattle.geo_schema.specs.Schemas.{Tables}
 use Rattle.row_source.specs.declared.list_source.RowImageAt.{RowImageAt}
 use Rattle.row_source.specs.Lists.{entry_of, table_of}
 use Rattle.row_source.specs.Sources.{Entry, Fits}
+
+-- keys that compare equal are one
+pub same_key : (a b : List Cell) → cells_eq a b ≡ true → a ≡ b
+same_key a b yes_is = (cells_eq_decides a b).0 yes_is
 
 -- one row more
 pub one_more : (tables : Tables) (rows more : List RowImageAt) (at : RowImageAt) → All (Fits tables) (table_of rows) → Fits tables (entry_of at) →

@@ -183,7 +183,7 @@ fn a_call_that_fails_is_a_fault_once(rt: HostRuntime) -> Result<(), Fail> {
     ] {
         let played = play_each(&rt, file, fails, ErrorKind::Other)?;
         assert!(rt;
-            played.is_ok_and(|plays| plays > 30),
+            played.is_ok_and(|plays| plays > 31),
             "{fails} at {played:?}"
         );
     }
@@ -193,6 +193,6 @@ fn a_call_that_fails_is_a_fault_once(rt: HostRuntime) -> Result<(), Fail> {
 #[test]
 fn an_interrupted_call_is_made_again(rt: HostRuntime) -> Result<(), Fail> {
     let played = play_each(&rt, CUT, 1, ErrorKind::Interrupted)?;
-    assert!(rt; played.is_ok_and(|plays| plays > 10), "at {played:?}");
+    assert!(rt; played.is_ok_and(|plays| plays > 11), "at {played:?}");
     Ok(())
 }

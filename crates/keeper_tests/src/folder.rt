@@ -23,10 +23,12 @@ anew
 /// Without its folder a log is empty, and nothing can be kept in it.
 const GONE: &str = "\
 0 gone => done
+anew
 0 len => Ok(0)
-0 append lost => Err(Failed)
+0 put lost => Err(Failed)
 0 len => Ok(0)
-0 there => false";
+0 there => false
+0 stands => false";
 
 /// A number past the list is a fault, and so is a file that is none.
 const NONE: &str = "\
@@ -35,26 +37,26 @@ const NONE: &str = "\
 1 read 0 => Ok(3)
 2 folder => done
 2 len => Err(Failed)
-2 append two => Err(Failed)";
+2 put two => Err(Failed)";
 
 /// A length that was changed to more than an entry has is a fault, and the file stays as it is.
 const LENGTHS: &str = "\
 3 write 0005first1002ab0003abc => done
 3 len => Err(Failed)
 3 read 0 => Err(Failed)
-3 append next => Err(Failed)
+3 put next => Err(Failed)
 3 holds 0005first1002ab0003abc => true
 anew
 3 write 0005first~002ab0003abc => done
 3 len => Err(Failed)
 3 read 0 => Err(Failed)
-3 append next => Err(Failed)
+3 put next => Err(Failed)
 3 holds 0005first~002ab0003abc => true
 anew
 3 write 0005first0@01ab0003abc => done
 3 len => Err(Failed)
 3 read 0 => Err(Failed)
-3 append next => Err(Failed)
+3 put next => Err(Failed)
 3 holds 0005first0@01ab0003abc => true";
 
 /// The second length is the most that an entry has, and reaches past the end.

@@ -2,10 +2,11 @@
 //!
 //! A line has the number of a region, what is asked, often a word, and behind an arrow what is told. Of keepers it is
 //! `len`, `read` of the entry of a number, which tells its length, `entries`, `append` of a text, and `long`, an
-//! append of so many bytes; the last two tell how many entries there are then. Of the region's file it is `write`,
-//! `holds`, which tells whether it has just these bytes, `there`, and `folder`, which makes a folder in its place;
-//! `gone` removes the folder of all files. In the bytes of a file a digit stands for the byte of that number, `~` for
-//! the byte 128, and all else for itself. Behind a line `anew` the keepers are new ones.
+//! append of so many bytes; the last two tell how many entries there are then, and `put` of a text tells of an append
+//! alone, which has the number 0. Of the region's file it is `write`, `holds`, which tells whether it has just these
+//! bytes, `there`, and `folder`, which makes a folder in its place; of the folder of all files `gone`, which removes
+//! it, and `stands`, which tells whether there is one. In the bytes of a file a digit stands for the byte of that
+//! number, `~` for the byte 128, and all else for itself. Behind a line `anew` the keepers are new ones.
 ghost use Rattle.std.specs.Prelude.{◌≡◌, ◌<◌, IfSome};
 
 use crate::asking::entries;
@@ -108,7 +109,7 @@ fn is_told(
 ) -> Result<bool, Fail> {
     let asked = asked_in(line).ok_or("no line")?;
     match asked.what {
-        "len" | "read" | "append" | "long" => is_number(rt.alloc(), keepers, asked),
+        "len" | "read" | "append" | "put" | "long" => is_number(rt.alloc(), keepers, asked),
         "entries" => are_entries(rt.alloc(), keepers, asked),
         _ => is_on_disk(rt, folder, asked),
     }
@@ -137,6 +138,7 @@ fn number(
         "len" => Ok(keepers.len(asked.region)?),
         "read" => read(alloc, keepers, asked.region, number_of(asked.word)),
         "append" => append(keepers, asked.region, asked.word.as_bytes()),
+        "put" => put(keepers, asked.region, asked.word.as_bytes()),
         _ => append(keepers, asked.region, &long(alloc, number_of(asked.word))?),
     }
 }
@@ -165,6 +167,13 @@ fn append(
 {
     keepers.append(region, bytes)?;
     Ok(keepers.len(region)?)
+}
+
+fn put(keepers: &mut FolderKeepers<HostRuntime>, region: u8, bytes: &[u8]) -> Result<u64, IoFault>
+    requires { region < 8 }
+{
+    keepers.append(region, bytes)?;
+    Ok(0)
 }
 
 // So many bytes.
@@ -202,7 +211,9 @@ fn told_on_disk(
         "folder" => fs::create_dir(rt, path)?,
         "gone" => fs::remove_dir_all(rt, folder)?,
         "there" => return Ok(told(fs::exists(rt, path)?)),
-        _ => return Ok(told(fs::read(rt, path)?.as_slice() == bytes)),
+        "stands" => return Ok(told(fs::exists(rt, folder)?)),
+        "holds" => return Ok(told(fs::read(rt, path)?.as_slice() == bytes)),
+        _ => return Ok("no such word"),
     }
     Ok("done")
 }
