@@ -93,8 +93,8 @@ fn delete_rows<R: RowSource>(
 /// Where a condition has a fault, the first one is the answer, and else [`ExecFault::TooManyRows`] or
 /// [`ExecFault::TooLarge`] where the net after the removals breaks that limit. It is handed no more rows than the plan that
 /// is chosen for it reaches. Beside the choice, what the source takes to hand the rows out, and a step for each of them and
-/// each test, the cost is a search by halving in the base for each row that is kept, and one in the net, and a pass over
-/// the net.
+/// each test, the cost is a copy of the key of each row that is kept, a question to the base for it, and what
+/// [`WriteSet::with`] takes, which copies the net, also where nothing is removed.
 pub fn delete<R: RowSource, L: Ledger>(
     alloc: Global,
     query: &BoundDelete,

@@ -71,8 +71,9 @@ fn lock_rows<R: RowSource>(
 ///
 /// Where a condition or an item has a fault, the first one is the answer, and else [`ExecFault::TooManyRows`] or
 /// [`ExecFault::TooLarge`] where the net after the touches breaks that limit. It is handed no more rows than the plan that
-/// is chosen for it reaches. Beside what [`crate::select`] takes the cost is a search by halving in the net, and one in
-/// the base, for each row that is kept, and a pass over the net.
+/// is chosen for it reaches. Beside what [`crate::select`] takes the cost is a copy of the key of each row that is kept, a
+/// search by halving in the net and a question to the base for it, and what [`WriteSet::with`] takes, which copies the net,
+/// also where nothing is touched.
 pub fn lock<R: RowSource, L: Ledger>(
     alloc: Global,
     query: &BoundSelect,

@@ -199,8 +199,8 @@ fn insert_rows<R: RowSource>(
 /// first fault of the first row that has one is the answer: [`ExecFault::Overflow`] or [`ExecFault::DivideByZero`],
 /// [`ExecFault::NullNotAllowed`] or [`ExecFault::TextTooLong`], [`ExecFault::Duplicate`]. Else it is
 /// [`ExecFault::TooManyRows`] or [`ExecFault::TooLarge`] where the net after the statement breaks that limit. The cost is
-/// that of the values, a search by halving in the base, in the net and among the names so far for each row, and a pass over
-/// the net.
+/// that of the values, for each row a copy of its key, a question to the base, and a search in the net and among the names
+/// so far, and what [`WriteSet::with`] takes, which copies the net.
 #[tactic(auto, using(geo_schema::specs::laws::Numbers::shown_is, crate::proofs::Inserted::inserts_made, crate::proofs::Inserted::inserts_once, crate::proofs::Answered::done_is, crate::proofs::Answered::net_refused, crate::proofs::Answered::fault_refused))]
 pub fn insert<R: RowSource>(
     alloc: Global,

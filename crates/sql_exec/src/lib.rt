@@ -4,8 +4,8 @@
 //! writes does to them: plain programs over lists, in which there are no plans. `select` answers the former by
 //! the plan that is chosen for the query, and `select_by` by any plan that leaves out only what the conditions
 //! drop: its lines or its first fault. `lock`, `insert`, `update` and `delete` do the latter: they answer the
-//! transaction's net after the statement, or its first fault. None is handed more rows than the plan reaches. They
-//! take queries of one table without groups and order.
+//! transaction's net after the statement, or its first fault. An INSERT is handed no rows, and nothing else is handed
+//! more rows than its plan reaches. Queries are of one table, without groups and order.
 //!
 //! `specs/Changes.antt` says what holds of the changes of a statement that writes. Laws say that it holds of each,
 //! and that rows of a schema stay such rows under these changes.

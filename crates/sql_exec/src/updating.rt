@@ -137,8 +137,8 @@ fn planned_updates<R: RowSource, L: Ledger>(
 /// answer: [`ExecFault::Overflow`] or [`ExecFault::DivideByZero`], [`ExecFault::NullNotAllowed`] or
 /// [`ExecFault::TextTooLong`]. Else it is [`ExecFault::TooManyRows`] or [`ExecFault::TooLarge`] where the net after the
 /// statement breaks that limit. It is handed no more rows than the plan that is chosen for it reaches. Beside what
-/// [`crate::select`] takes for the rows the cost is a copy of each row that is kept, its values, a search by halving in the
-/// base, and a pass over the net.
+/// [`crate::select`] takes for the rows the cost is a copy of each row that is kept and of its key, its values, a question to
+/// the base, and what [`WriteSet::with`] takes, which copies the net.
 pub fn update<R: RowSource, L: Ledger>(
     alloc: Global,
     query: &BoundUpdate,
