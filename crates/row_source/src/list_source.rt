@@ -19,11 +19,14 @@ use std::sync::ledger::Ledger;
 /// A row with its image.
 #[derive(Debug, Drop)]
 pub struct RowImageAt {
+    /// Its name.
     pub row: RowId,
+    /// Its cells.
     pub image: RowImage,
 }
 
-/// The plain source: lists of rows. A row is found by halving, and a range by going through all rows.
+/// The plain source: lists of rows. A row is found by halving, and a range by going through all rows; one of an index
+/// copies the cells of each row of the table in the index.
 #[derive(Drop)]
 pub struct ListSource<'a> {
     schema: &'a Schema,

@@ -4,6 +4,8 @@ use geo_base::RowImage;
 /// there are two.
 #[derive(Debug, Drop)]
 pub struct Pair {
+    /// The row of the left table.
     pub left: RowImage,
+    /// The row of the right table, where there is one.
     pub right: Option<RowImage>,
 }

@@ -19,6 +19,7 @@ pub enum Access {
 /// What a cell of the right row's key is equal to.
 #[derive(Debug, Drop)]
 pub enum KeyPart {
+    /// This cell.
     Lit(Cell),
     /// The cell of the left row in the column at this place.
     Left(u16),
@@ -42,13 +43,17 @@ pub enum JoinKind {
 /// The second table of a plan.
 #[derive(Debug, Drop)]
 pub struct Second {
+    /// How the right table's rows are reached.
     pub access: Access,
+    /// Which of them are found beside a left row.
     pub join: JoinKind,
 }
 
 /// A plan for one table or two.
 #[derive(Debug, Drop)]
 pub struct Plan {
+    /// How the rows of the first table are reached.
     pub first: Access,
+    /// The second table, where there are two.
     pub second: Option<Second>,
 }

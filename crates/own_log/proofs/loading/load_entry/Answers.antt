@@ -13,4 +13,4 @@ returns-clause-fault g c =
     (names_told c.args.schema.now c.args.regions c.args.region (g.L.Keepers.lists c.args.logs.now) c.args.place c.in_ok-bytes.bytes.items c.in-Err.fault c.in_ok-bytes.ensures.bytes found)
 
 pub returns-clause-no_want : goal.returns-clause-no_want
-returns-clause-no_want g c = subst NamesNoWant (sym c.blamed.ensures) (blamed_no_want c.args.place c.in-Err.fault)
+returns-clause-no_want g c = subst NamesNoWant (sym c.blamed.ensures) (blamed_no_want _ c.in-Err.fault)
