@@ -98,6 +98,18 @@ fn is_plain(query: &BoundSelect) -> bool
     query.tables.items().len() == 1 && !query.grouped && query.order.items().is_empty()
 }
 
+/// The lines of a query, behind how many rows it was handed.
+fn lines_text(
+    alloc: Global,
+    source: &Counted,
+    answer: &Result<LineList, ExecFault>,
+) -> Result<String, Fail> {
+    let count = source.take_count();
+    let mut out = format!(in alloc; "{count}:")?;
+    print_answer(&mut out, answer)?;
+    Ok(out)
+}
+
 fn selected<L: Ledger>(
     alloc: Global,
     schema: &Schema,
@@ -113,10 +125,20 @@ fn selected<L: Ledger>(
         return Err("a query of another form".into());
     }
     let answer = select(alloc, query, source, schema, steps);
+    let out = lines_text(alloc, source, &answer);
+    drop(answer);
+    out
+}
+
+/// The lines of a query that locks and the net behind it, behind how many rows it was handed.
+fn locked_text(
+    alloc: Global,
+    source: &Counted,
+    answer: &Result<Locked, ExecFault>,
+) -> Result<String, Fail> {
     let count = source.take_count();
     let mut out = format!(in alloc; "{count}:")?;
-    print_answer(&mut out, &answer)?;
-    drop(answer);
+    print_locked(&mut out, answer)?;
     Ok(out)
 }
 
@@ -137,11 +159,9 @@ fn locked<L: Ledger>(
         return Err("a query of another form".into());
     }
     let answer = lock(alloc, query, source, own, schema, steps);
-    let count = source.take_count();
-    let mut out = format!(in alloc; "{count}:")?;
-    print_locked(&mut out, &answer)?;
+    let out = locked_text(alloc, source, &answer);
     drop(answer);
-    Ok(out)
+    out
 }
 
 /// What a statement that writes has done, behind how many rows it was handed.
@@ -228,6 +248,35 @@ pub fn statement_of(alloc: Global, text: &str) -> Result<Statement, Fail> {
     Ok(parse(alloc, text)?)
 }
 
+/// What the statement is answered behind the net of the transaction.
+fn answered<L: Ledger>(
+    alloc: Global,
+    schema: &Schema,
+    source: &Counted,
+    own: &WriteSet,
+    statement: &Statement,
+    steps: &mut Steps<L>,
+) -> Result<String, Fail>
+    requires schema { source.now.list.tables ≡ schema.now }
+    requires rows { AreRowsOf schema.now source.now.list.rows }
+    requires laid { source.now.list.rows ≡ overlay source.now.list.base own.now }
+{
+    if !is_of_tables(statement) {
+        return Err("no statement of tables".into());
+    }
+    let bound = bind(alloc, statement, schema);
+    let answer = match &bound {
+        Ok(Bound::Select(query)) => selected(alloc, schema, source, query, steps),
+        Ok(Bound::Lock(query)) => locked(alloc, schema, source, own, query, steps),
+        Ok(Bound::Insert(query)) => inserted(alloc, schema, source, own, query),
+        Ok(Bound::Update(query)) => updated(alloc, schema, source, own, query, steps),
+        Ok(Bound::Delete(query)) => deleted(alloc, schema, source, own, query, steps),
+        _ => Err("another statement".into()),
+    };
+    drop(bound);
+    answer
+}
+
 /// What the statement of a text is answered behind the net of the transaction. It has to be one that writes,
 /// or a query of one table without groups and order.
 pub fn answer<L: Ledger>(
@@ -243,19 +292,7 @@ pub fn answer<L: Ledger>(
     requires laid { source.now.list.rows ≡ overlay source.now.list.base own.now }
 {
     let statement = statement_of(alloc, text)?;
-    if !is_of_tables(&statement) {
-        return Err("no statement of tables".into());
-    }
-    let bound = bind(alloc, &statement, schema);
+    let answer = answered(alloc, schema, source, own, &statement, steps);
     drop(statement);
-    let answer = match &bound {
-        Ok(Bound::Select(query)) => selected(alloc, schema, source, query, steps),
-        Ok(Bound::Lock(query)) => locked(alloc, schema, source, own, query, steps),
-        Ok(Bound::Insert(query)) => inserted(alloc, schema, source, own, query),
-        Ok(Bound::Update(query)) => updated(alloc, schema, source, own, query, steps),
-        Ok(Bound::Delete(query)) => deleted(alloc, schema, source, own, query, steps),
-        _ => Err("another statement".into()),
-    };
-    drop(bound);
     answer
 }

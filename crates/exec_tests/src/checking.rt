@@ -65,6 +65,26 @@ fn wrong<L: Ledger>(
     Ok(Some(format!(in alloc; "{line}, but found {found}")?))
 }
 
+fn first_wrong_of<L: Ledger>(
+    alloc: Global,
+    schema: &Schema,
+    source: &Counted,
+    own: &WriteSet,
+    lines: &str,
+    steps: &mut Steps<L>,
+) -> Result<Option<String>, Fail>
+    requires schema { source.now.list.tables ≡ schema.now }
+    requires rows { AreRowsOf schema.now source.now.list.rows }
+    requires laid { source.now.list.rows ≡ overlay source.now.list.base own.now }
+{
+    for line in lines.lines() {
+        if let Some(wrong) = wrong(alloc, schema, source, own, line, steps)? {
+            return Ok(Some(wrong));
+        }
+    }
+    Ok(None)
+}
+
 /// The source of the rows with the net laid over them, and which has the rows without it as its base.
 fn source_of<'a>(
     alloc: Global,
@@ -101,12 +121,11 @@ fn first_wrong_on<L: Ledger>(
     let own = net_of(alloc, &schema, net.as_str())?;
     let source = source_of(alloc, &schema, rows.as_str(), &own)?;
     let mut steps: Steps<L> = Steps::new(blank);
-    for line in lines.lines() {
-        if let Some(wrong) = wrong(alloc, &schema, &source, &own, line, &mut steps)? {
-            return Ok(Some(wrong));
-        }
-    }
-    Ok(None)
+    let found = first_wrong_of(alloc, &schema, &source, &own, lines.as_str(), &mut steps);
+    drop(source);
+    drop(own);
+    drop(schema);
+    found
 }
 
 /// The first line whose statement isn't answered as it says. Each line has a statement, an arrow, how many rows it is
