@@ -1,3 +1,4 @@
+pub mod Indexes
 pub mod Ranges
 pub mod Repeats
 pub mod Rows

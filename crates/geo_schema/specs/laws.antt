@@ -1,5 +1,6 @@
 -- Laws, with their proofs, for the proofs of the crates above.
 pub mod Apart
+pub mod Edges
 pub mod Fits
 pub mod Hidden
 pub mod Keys

@@ -16,6 +16,7 @@ mod column;
 mod fault;
 mod hidden;
 mod index;
+mod indexed;
 mod laws;
 pub mod limits;
 mod range;
@@ -29,6 +30,7 @@ mod unique_rule;
 pub use column::{ColumnDef, ColumnList, Kind, PlaceList};
 pub use fault::{CellFault, SchemaFault};
 pub use index::{IndexDef, IndexList};
+pub use indexed::index_cells;
 pub use laws::{
     a_cell_suits_or_has_one_fault, cells_are_a_row_or_have_one_fault, faultless_cells_are_rows,
     faultless_tables_are_schemas, names_are_of_one_table, nothing_stands_twice,

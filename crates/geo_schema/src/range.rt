@@ -38,7 +38,8 @@ fn beside(key: &[Cell], cells: &[Cell]) -> Ordering
 }
 
 impl Edge {
-    fn is_from(&self, key: &[Cell]) -> bool
+    /// Whether the key isn't below the edge, which is the low one of a range.
+    pub fn is_from(&self, key: &[Cell]) -> bool
         ensures { result ≡ is_from self.now key.now }
     {
         match self {
@@ -48,7 +49,8 @@ impl Edge {
         }
     }
 
-    fn is_up_to(&self, key: &[Cell]) -> bool
+    /// Whether the key isn't past the edge, which is the high one of a range.
+    pub fn is_up_to(&self, key: &[Cell]) -> bool
         ensures { result ≡ is_up_to self.now key.now }
     {
         match self {

@@ -9,7 +9,8 @@ use Rattle.geo_base.specs.declared.cell.Cell.TheVariants as cell
 use Rattle.geo_base.specs.declared.row_id.RowId.{RowId}
 use Rattle.geo_schema.specs.Schemas.{Tables, table_at}
 use Rattle.geo_schema.specs.declared.table.TableDef.{TableDef}
-use Rattle.row_source.specs.Sources.{Entry, index_at, is_by_index, is_by_key}
+use Rattle.geo_schema.specs.Indexes.{index_at}
+use Rattle.row_source.specs.Sources.{Entry, is_by_index, is_by_key}
 use Rattle.row_source.specs.declared.plan.Access.{Access}
 use Rattle.row_source.specs.declared.plan.Access.TheVariants as access
 use Rattle.row_source.specs.declared.plan.JoinKind.{JoinKind}

@@ -1,13 +1,11 @@
 -- What a source of rows hands out: parts of its list of rows.
-use Rattle.std.specs.Prelude.{◌≡◌, ℕ, ◌<◌, Bool, ◌&&◌, nat_eq, Option, Some, None, List, [], ◌∷◌, filter, length, map, slice_index_or}
+use Rattle.std.specs.Prelude.{◌≡◌, ℕ, Bool, ◌&&◌, nat_eq, Option, Some, None, List, [], ◌∷◌, filter, map}
 use Rattle.std.specs.List.{All}
-use Rattle.geo_base.specs.declared.cell.Cell.{Cell}
-use Rattle.geo_base.specs.declared.cell.Cell.TheVariants as cell
 use Rattle.geo_base.specs.declared.row_id.RowId.{RowId}
 use Rattle.geo_base.specs.declared.row_image.RowImage.{RowImage}
 use Rattle.geo_schema.specs.declared.index.IndexDef.{IndexDef}
 use Rattle.geo_schema.specs.declared.range.KeyRange.{KeyRange}
-use Rattle.geo_schema.specs.declared.table.TableDef.{TableDef}
+use Rattle.geo_schema.specs.Indexes.{index_at, index_cells}
 use Rattle.geo_schema.specs.Ranges.{is_within}
 use Rattle.geo_schema.specs.Rows.{IsRow, key_cells}
 use Rattle.geo_schema.specs.Schemas.{Tables, IsTableNo, table_at}
@@ -34,18 +32,6 @@ is_by_key table range entry = nat_eq entry.0.table table && is_within range entr
 unfoldable pub images_by_key : ℕ → KeyRange → Table → List RowImage
 images_by_key table range rows = images (filter (is_by_key table range) rows)
 
--- an index with nothing, which stands for those past the last one
-abbrev pub no_index : IndexDef
-no_index = record { name = []; columns = [] }
-
--- the index of a table at a place
-abbrev pub index_at : TableDef → ℕ → IndexDef
-index_at table place = slice_index_or table.indexes place no_index
-
--- the cells of a row in the columns of an index, in the index's order
-abbrev pub index_cells : IndexDef → List Cell → List Cell
-index_cells index cells = map (λ place. slice_index_or cells place cell.Null) index.columns
-
 -- the row is of the table, and its cells in the index lie in the range
 abbrev pub is_by_index : IndexDef → ℕ → KeyRange → Entry → Bool
 is_by_index index table range entry = nat_eq entry.0.table table && is_within range (index_cells index entry.1)
@@ -54,10 +40,6 @@ is_by_index index table range entry = nat_eq entry.0.table table && is_within ra
 unfoldable pub images_by_index : Tables → ℕ → ℕ → KeyRange → Table → List RowImage
 images_by_index tables table place range rows =
     images (filter (is_by_index (index_at (table_at tables table) place) table range) rows)
-
--- there is a table with the number that has an index at the place
-abbrev pub HasIndex : Tables → ℕ → ℕ → Type 0
-HasIndex tables table place = place < length (table_at tables table).indexes
 
 -- the image of a row as a list, which is empty where there is none
 abbrev pub listed : Option RowImage → List RowImage

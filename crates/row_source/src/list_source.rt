@@ -1,17 +1,17 @@
-ghost use Rattle.std.specs.Prelude.{◌≡◌, filter, map, IfOk, slice_index_or};
+ghost use Rattle.std.specs.Prelude.{◌≡◌, filter, map, IfOk};
 ghost use Rattle.std.specs.Option.{option_copied};
-ghost use Rattle.geo_base.specs.declared.cell.Cell.TheVariants as null;
+ghost use Rattle.geo_schema.specs.Indexes.{HasIndex, index_at, index_cells};
 ghost use Rattle.geo_schema.specs.Ranges.{is_within};
 ghost use Rattle.geo_schema.specs.Schemas.{table_at};
 ghost use Rattle.row_source.specs.Lists.{table_of};
-ghost use Rattle.row_source.specs.Sources.{HasIndex, images, images_by_key, index_at, index_cells, is_by_index};
+ghost use Rattle.row_source.specs.Sources.{images, images_by_key, is_by_index};
 ghost use Rattle.write_set.specs.Overlay.{image_in};
 ghost use Rattle.write_set.specs.Sets.{Rises};
 
 use crate::source::RowSource;
 use crate::steps::Steps;
 use geo_base::{Cell, Duplicate, Many, NoMemory, RowId, RowImage, TableNo};
-use geo_schema::{IndexDef, KeyRange, Schema};
+use geo_schema::{IndexDef, KeyRange, Schema, index_cells};
 use std::alloc::Global;
 use std::marker::Model;
 use std::sync::ledger::Ledger;
@@ -101,27 +101,6 @@ fn images_by_key<'a>(
         }
     }
     Ok(found)
-}
-
-/// The cells of a row in the columns of an index.
-fn index_cells(alloc: Global, index: &IndexDef, cells: &[Cell]) -> Result<Vec<Cell>, NoMemory>
-    ensures { IfOk result (λ found. found.items ≡ index_cells index.now cells.now) }
-{
-    let mut found = Vec::with_capacity(alloc, index.columns.items().len())?;
-    for place in index.columns.items() {
-        found.push(cell_at(alloc, cells, *place)?)?;
-    }
-    Ok(found)
-}
-
-/// A copy of the cell at the place, and NULL behind the last one.
-fn cell_at(alloc: Global, cells: &[Cell], place: u8) -> Result<Cell, NoMemory>
-    ensures { IfOk result (λ cell. cell ≡ slice_index_or cells.now place null.Null) }
-{
-    match cells.get(usize::from(place)) {
-        Some(cell) => cell.copy(alloc),
-        None => Ok(Cell::Null),
-    }
 }
 
 /// The images of the table's rows whose cells in the index lie in the range.

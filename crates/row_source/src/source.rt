@@ -1,7 +1,8 @@
 ghost use Rattle.std.specs.Prelude.{◌≡◌, ◌+◌, length, map, IfOk, OnErr};
 ghost use Rattle.std.specs.Option.{is_some, option_copied};
 ghost use Rattle.geo_schema.specs.Schemas.{Tables};
-ghost use Rattle.row_source.specs.Sources.{HasIndex, images_by_index, images_by_key, listed};
+ghost use Rattle.geo_schema.specs.Indexes.{HasIndex};
+ghost use Rattle.row_source.specs.Sources.{images_by_index, images_by_key, listed};
 ghost use Rattle.write_set.specs.Overlay.{Table, image_in};
 ghost use Rattle.write_set.specs.Sets.{Rises};
 

@@ -1,6 +1,7 @@
 //! That a counter rises by exactly what is handed out.
 ghost use Rattle.std.specs.Prelude.{◌≡◌, ◌+◌, ◌++◌, ◌<◌, length, map, IfOk};
-ghost use Rattle.row_source.specs.Sources.{HasIndex, images_by_key, listed};
+ghost use Rattle.geo_schema.specs.Indexes.{HasIndex};
+ghost use Rattle.row_source.specs.Sources.{images_by_key, listed};
 ghost use Rattle.write_set.specs.Overlay.{image_in};
 
 use geo_base::{RowId, RowImage};

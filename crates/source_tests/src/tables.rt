@@ -3,7 +3,7 @@
 //! Columns have commas between them, and hold numbers. A place is one digit. An index is its places, which
 //! are its name too, and indexes have commas between them.
 ghost use Rattle.std.specs.Prelude.{IsTrue};
-ghost use Rattle.row_source.specs.Sources.{HasIndex};
+ghost use Rattle.geo_schema.specs.Indexes.{HasIndex};
 
 use geo_base::{TableNo, Txt};
 use geo_schema::{ColumnDef, ColumnList, IndexDef, IndexList, Kind, PlaceList, Schema, TableDef};

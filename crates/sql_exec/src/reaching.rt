@@ -6,7 +6,8 @@ ghost use Rattle.geo_schema.specs.Schemas.{table_at};
 ghost use Rattle.row_source.specs.Bounds.{reached};
 ghost use Rattle.row_source.specs.Handing.{IsAccessTo, reaches};
 ghost use Rattle.row_source.specs.Sources as sources;
-ghost use Rattle.row_source.specs.Sources.{HasIndex, images, index_at, is_by_index, is_by_key, of_table};
+ghost use Rattle.geo_schema.specs.Indexes.{HasIndex, index_at};
+ghost use Rattle.row_source.specs.Sources.{images, is_by_index, is_by_key, of_table};
 
 use geo_base::{NoMemory, RowId, RowImage, TableNo};
 use geo_schema::{Edge, KeyRange};

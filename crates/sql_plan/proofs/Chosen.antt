@@ -7,7 +7,7 @@ use Rattle.std.proofs.lemmas.List.{append_assoc, append-nil, drop_more, get_or_d
 use Rattle.geo_base.specs.declared.cell.Cell.{Cell}
 use Rattle.geo_schema.specs.declared.index.IndexDef.{IndexDef}
 use Rattle.geo_schema.specs.declared.table.TableDef.{TableDef}
-use Rattle.row_source.specs.Sources.{index_at, no_index}
+use Rattle.geo_schema.specs.Indexes.{index_at, no_index}
 use Rattle.row_source.specs.declared.plan.JoinKind.TheVariants as join
 use Rattle.sql_expr.specs.declared.expr.Test.{Test}
 use Rattle.sql_plan.specs.Plans.{equal_cell, first_is, first_test, fixed_cells, in_front, index_choice, is_bounded, is_fixed, join_by_links, next_test}

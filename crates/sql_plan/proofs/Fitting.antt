@@ -10,7 +10,7 @@ use Rattle.geo_schema.specs.Schemas.{Tables, table_at}
 use Rattle.geo_schema.specs.declared.index.IndexDef.{IndexDef}
 use Rattle.geo_schema.specs.declared.table.TableDef.{TableDef}
 use Rattle.row_source.specs.Handing.{IsAccessTo, IsJoinOf, IsPartBeside, IsPlanFor}
-use Rattle.row_source.specs.Sources.{no_index}
+use Rattle.geo_schema.specs.Indexes.{no_index}
 use Rattle.row_source.specs.declared.plan.Access.TheVariants as access
 use Rattle.row_source.specs.declared.plan.JoinKind.TheVariants as join
 use Rattle.row_source.specs.declared.plan.KeyPart.{KeyPart}

@@ -20,7 +20,8 @@ use Rattle.geo_schema.specs.Schemas.{Tables, table_at}
 use Rattle.geo_schema.specs.declared.range.Edge.TheVariants.{Incl, Excl}
 use Rattle.geo_schema.specs.declared.range.KeyRange.{KeyRange}
 use Rattle.row_source.specs.Handing.{cell_at, reaches, row_named}
-use Rattle.row_source.specs.Sources.{Entry, Fits, index_at}
+use Rattle.geo_schema.specs.Indexes.{index_at}
+use Rattle.row_source.specs.Sources.{Entry, Fits}
 use Rattle.row_source.specs.declared.plan.Access.{Access}
 use Rattle.row_source.specs.declared.plan.Access.TheVariants as access
 use Rattle.sql_expr.specs.Values.{holds}

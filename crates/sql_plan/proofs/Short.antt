@@ -7,7 +7,7 @@ use Rattle.geo_schema.specs.Tables.{IsTable}
 use Rattle.geo_schema.specs.declared.table.TableDef.{TableDef}
 use Rattle.geo_schema.specs.laws.Numbers.{shown_is}
 use Rattle.row_source.specs.Handing.{IsAccessTo}
-use Rattle.row_source.specs.Sources.{index_at, no_index}
+use Rattle.geo_schema.specs.Indexes.{index_at, no_index}
 use Rattle.row_source.specs.declared.plan.Access.{Access}
 use Rattle.row_source.specs.declared.plan.Access.TheVariants as access
 use Rattle.row_source.specs.declared.plan.JoinKind.{JoinKind}

@@ -2,7 +2,7 @@
 use Rattle.std.specs.Prelude.{ℕ, Option, Some, None, List, [], ◌∷◌, ◌++◌, codes}
 use Rattle.geo_schema.specs.Schemas.{Tables, table_at}
 use Rattle.geo_schema.specs.declared.table.TableDef.{TableDef}
-use Rattle.row_source.specs.Sources.{index_at}
+use Rattle.geo_schema.specs.Indexes.{index_at}
 use Rattle.row_source.specs.declared.plan.Access.{Access}
 use Rattle.row_source.specs.declared.plan.Access.TheVariants as access
 use Rattle.row_source.specs.declared.plan.JoinKind.{JoinKind}

@@ -9,7 +9,7 @@ use Rattle.geo_schema.specs.declared.range.Edge.TheVariants.{Open, Incl, Excl}
 use Rattle.geo_schema.specs.declared.range.KeyRange.{KeyRange}
 use Rattle.geo_schema.specs.declared.table.TableDef.{TableDef}
 use Rattle.geo_schema.specs.Schemas.{Tables, table_at}
-use Rattle.row_source.specs.Sources.{index_at}
+use Rattle.geo_schema.specs.Indexes.{index_at}
 use Rattle.row_source.specs.declared.plan.Access.{Access}
 use Rattle.row_source.specs.declared.plan.Access.TheVariants as access
 use Rattle.row_source.specs.declared.plan.JoinKind.{JoinKind}

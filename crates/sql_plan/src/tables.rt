@@ -3,7 +3,7 @@ ghost use Rattle.std.specs.Prelude.{◌≡◌, ◌<◌, length};
 ghost use Rattle.geo_schema.specs.Schemas.{IsTableNo, table_at};
 ghost use Rattle.geo_schema.specs.Tables.{IsTable};
 ghost use Rattle.geo_schema.specs.declared.limits.TheConstants.{FIRST_HIDDEN};
-ghost use Rattle.row_source.specs.Sources.{index_at};
+ghost use Rattle.geo_schema.specs.Indexes.{index_at};
 
 use geo_base::TableNo;
 use geo_schema::{IndexDef, Schema, TableDef};

@@ -2,4 +2,3 @@ mod Finding
 mod Applying
 mod Listed
 mod Trimmed
-mod Gathering

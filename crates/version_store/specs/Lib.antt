@@ -1,5 +1,4 @@
 pub mod Chains
-pub mod Committing
 pub mod History
 pub mod Listing
 pub mod inner

@@ -1,4 +1,3 @@
 -- Words for what inner functions do.
-pub mod Gathering
 pub mod Noting
 pub mod Writing

@@ -5,11 +5,10 @@ ghost use Rattle.geo_base.specs.declared.row_image.RowImage.{RowImage};
 ghost use Rattle.write_set.specs.declared.change.Change.TheVariants.{Put};
 ghost use Rattle.write_set.specs.Sets.{Rises};
 ghost use Rattle.write_set.specs.Journal.{Journal, Placed, Epochs, Extends, IsJournal, epochs_of, last_sealed};
-ghost use Rattle.write_set.specs.Merge.{committed, last_change, verdicts};
+ghost use Rattle.write_set.specs.Merge.{committed, last_change};
 ghost use Rattle.write_set.specs.Overlay.{Table, image_in};
 ghost use Rattle.write_set.specs.Snapshot.{changes_of, image_after, snap_at, snap_rows};
 ghost use Rattle.version_store.specs.Chains.{Version, Chain, image_at, newest_image, newest_epoch, grown};
-ghost use Rattle.version_store.specs.Committing.{committed_among};
 ghost use Rattle.version_store.specs.History.{Kept, chain_of, IsKept, IsHistoryOf, IsApplied, IsTrimmed};
 ghost use Rattle.version_store.specs.Listing.{table_at};
 
@@ -24,11 +23,6 @@ pub fn versions_answer_as_snapshots()
         newest_epoch (chain_of kept row) ≡ last_change (epochs_of journal kept.applied) row }
     ensures upto { (journal : Journal) (kept : Kept) (row : RowId) → IsHistoryOf journal kept →
         last_change (epochs_of journal kept.applied) row ≤ kept.horizon → newest_epoch (chain_of kept row) ≤ kept.horizon }
-{}
-
-/// The candidates of an epoch that its verdicts say to commit are those that commit.
-pub fn verdicts_say_who_commits()
-    ensures { (all : List Placed) (older : Epochs) → committed_among all (verdicts (all ∷ older)) ≡ committed (all ∷ older) }
 {}
 
 /// What is kept is a history of the journal before the first epoch, after the journal's next epoch is applied, and

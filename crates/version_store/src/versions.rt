@@ -3,10 +3,9 @@ ghost use Rattle.std.specs.Prelude.{◌≡◌, ◌+◌, ◌<◌, ◌≤◌, [], 
 ghost use Rattle.std.specs.Option.{option_copied};
 ghost use Rattle.page_map.specs.Borders.{IsBorder, pairs_between};
 ghost use Rattle.write_set.specs.Journal.{Journal, IsJournal, candidates_of, epochs_of};
-ghost use Rattle.write_set.specs.Merge.{last_change};
+ghost use Rattle.write_set.specs.Merge.{committed_among, last_change};
 ghost use Rattle.write_set.specs.Snapshot.{snap_at};
 ghost use Rattle.version_store.specs.Chains.{image_at, newest_epoch};
-ghost use Rattle.version_store.specs.Committing.{committed_among};
 ghost use Rattle.version_store.specs.History.{chain_of, IsKept, IsHistoryOf, TellsChange, AreNextOf, IsApplied, IsTrimmed};
 ghost use Rattle.version_store.specs.Listing.{table_at};
 
@@ -14,12 +13,12 @@ use crate::chain::Chain;
 use crate::changed_rows::{ChangedRows, later_notes};
 use crate::cutting::cut_noted;
 use crate::listing::rows_at;
-use crate::writing::{committed_changes, write_all};
+use crate::writing::write_all;
 use geo_base::{Epoch, NoMemory, Outcome, RowId, RowImage, copy_items};
 use page_map::{Border, PageMap};
 use std::alloc::Global;
 use std::marker::Model;
-use write_set::{Batch, Changes, KeptVersions};
+use write_set::{Batch, Changes, KeptVersions, committed_changes};
 
 /// The epoch that was asked for is below the horizon, whose number this has.
 #[derive(Clone, Copy, Debug, PartialEq, Eq)]

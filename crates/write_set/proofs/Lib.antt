@@ -1,4 +1,5 @@
 pub mod Deciding
+pub mod Gathering
 pub mod Judging
 pub mod Keeping
 pub mod Lists

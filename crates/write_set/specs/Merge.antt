@@ -89,3 +89,10 @@ committed (all ∷ older) = committed_of (last_change older) (length older + 1) 
 abbrev pub verdicts : Epochs → List Outcome
 verdicts [] = []
 verdicts (all ∷ older) = map (verdict_of (last_change older) (length older + 1) all) all
+
+-- the candidates whose outcome is that they commit, where each outcome is that of the candidate at its place
+abbrev pub committed_among : List Placed → List Outcome → List Placed
+committed_among [] outcomes = []
+committed_among (c ∷ more) [] = []
+committed_among (c ∷ more) (outcome ∷ outcomes) =
+    if is_committed outcome then c ∷ committed_among more outcomes else committed_among more outcomes

@@ -1,5 +1,6 @@
 -- Laws, with their proofs, for the proofs of the crates above.
 pub mod Among
+pub mod Committing
 pub mod Isolating
 pub mod Lookups
 pub mod Nets

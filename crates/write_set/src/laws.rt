@@ -1,5 +1,5 @@
 //! The laws of every journal, each the contract of a function that does nothing.
-ghost use Rattle.std.specs.Prelude.{◌≡◌, ℕ, ◌+◌, ◌≤◌, ◌↔◌, true, false, List, Contains};
+ghost use Rattle.std.specs.Prelude.{◌≡◌, ◌⊎◌, ℕ, ◌+◌, ◌≤◌, ◌↔◌, true, false, Some, [], ◌∷◌, List, Contains};
 ghost use Rattle.geo_base.specs.declared.row_id.RowId.{RowId};
 ghost use Rattle.geo_base.specs.declared.numbers.CandId.{CandId};
 ghost use Rattle.geo_base.specs.declared.outcome.Outcome.{Outcome};
@@ -7,9 +7,10 @@ ghost use Rattle.geo_base.specs.declared.outcome.Outcome.TheVariants.{Beaten};
 ghost use Rattle.write_set.specs.Sets.{ChangeOfRow, Rises, has_row};
 ghost use Rattle.write_set.specs.Net.{IsNet, change_in};
 ghost use Rattle.write_set.specs.inner.Nets.{net_of};
+ghost use Rattle.write_set.specs.declared.change.Change.{Change};
 ghost use Rattle.write_set.specs.declared.row_change.RowChange.{RowChange};
 ghost use Rattle.write_set.specs.Journal.{Journal, Epochs, Placed, IsJournal, batches_at, candidates_of, epochs_of, last_sealed, Extends};
-ghost use Rattle.write_set.specs.Merge.{contenders, id_of, is_beaten_on, last_change, verdict_of, verdicts};
+ghost use Rattle.write_set.specs.Merge.{committed, committed_among, contenders, id_of, is_beaten_on, last_change, verdict_of, verdicts};
 ghost use Rattle.write_set.specs.Overlay.{Table, image_in, overlay};
 ghost use Rattle.write_set.specs.Snapshot.{image_over, snap_at, snap_rows};
 ghost use Rattle.write_set.specs.Isolation.{Commits, IsSnapshotIsolated};
@@ -91,4 +92,16 @@ pub fn names_are_of_one_candidate()
 pub fn last_changes_are_last()
     ensures { (journal : Journal) (upto : ℕ) (row : RowId) (epoch : ℕ) →
         (last_change (epochs_of journal upto) row ≡ epoch) ↔ IsLastChange journal upto row epoch }
+{}
+
+/// The candidates of an epoch that its verdicts say to commit are those that commit.
+pub fn verdicts_say_who_commits()
+    ensures { (all : List Placed) (older : Epochs) → committed_among all (verdicts (all ∷ older)) ≡ committed (all ∷ older) }
+{}
+
+/// What a net says of a row is what the set before it says, or what one of the changes makes of the row.
+pub fn nets_are_of_their_changes()
+    ensures { (set : List ChangeOfRow) (changes : List RowChange) (net : List ChangeOfRow) (row : RowId) (change : Change) →
+        IsNet set changes net → change_in net row ≡ Some change →
+        (change_in set row ≡ Some change) ⊎ ((c : RowChange) × Contains changes c × (c.row ≡ row) × (c.change ≡ change)) }
 {}

@@ -13,6 +13,7 @@ mod batch;
 mod candidate;
 mod change;
 mod changes;
+mod committing;
 mod entrant;
 mod kept_versions;
 mod laws;
@@ -32,11 +33,13 @@ pub use batch::Batch;
 pub use candidate::{Candidate, CandidateList};
 pub use change::Change;
 pub use changes::Changes;
+pub use committing::committed_changes;
 pub use kept_versions::KeptVersions;
 pub use laws::{
     committed_share_no_row, journals_are_isolated, last_changes_are_last,
-    names_are_of_one_candidate, nets_have_last_changes, overlays_are_looked_up,
-    rows_are_the_snapshot, sealed_epochs_stay, verdicts_are_by_the_rules, winner_is_unbeaten,
+    names_are_of_one_candidate, nets_are_of_their_changes, nets_have_last_changes,
+    overlays_are_looked_up, rows_are_the_snapshot, sealed_epochs_stay, verdicts_are_by_the_rules,
+    verdicts_say_who_commits, winner_is_unbeaten,
 };
 pub use plain::Plain;
 pub use row_change::RowChange;

@@ -1,15 +1,15 @@
 -- Laws: what is kept stays a history of the journal, whatever epochs are applied and wherever the horizon is moved.
-use Rattle.std.proofs.Common.{◌≡◌, ℕ, suc, ◌+◌, ◌<◌, ◌≤◌, Bool, true, false, cond, List, [], ◌∷◌, length, map, filter, refl, sym, ap, ◌∙◌, subst, arith}
+use Rattle.std.proofs.Common.{◌≡◌, ℕ, suc, ◌+◌, ◌<◌, ◌≤◌, List, [], refl, sym, ap, ◌∙◌, subst, arith}
 use Rattle.geo_base.specs.declared.row_id.RowId.{RowId}
 use Rattle.geo_base.specs.declared.outcome.Outcome.{Outcome}
 use Rattle.write_set.specs.declared.batch.Batch.{Batch}
 use Rattle.write_set.specs.Journal.{Journal, Placed, Epochs, Extends, IsJournal, batches_at, candidates_of, epochs_of, last_sealed}
-use Rattle.write_set.specs.Merge.{committed, is_committed, last_change, verdict_of, verdicts}
+use Rattle.write_set.specs.Merge.{committed, committed_among, last_change}
 use Rattle.write_set.specs.Snapshot.{snap_at}
+use Rattle.write_set.specs.laws.Committing.{verdicts_commit}
 use Rattle.write_set.specs.laws.Placing.{length_epochs}
 use Rattle.write_set.specs.laws.Sealing.{epochs_stay, sealed_grows}
 use Rattle.version_store.specs.Chains.{image_at, newest_epoch, grown, kept_at}
-use Rattle.version_store.specs.Committing.{committed_among}
 use Rattle.version_store.specs.History.{Kept, chain_of, versions_of, IsHistoryOf, AreNextOf, IsApplied, IsTrimmed}
 use Rattle.version_store.specs.laws.Trimming.{answers_from, kept_again, newest_after, newest_upto, grown_kept}
 use Rattle.version_store.specs.laws.Answering.{newest_is_last, versions_answer}
@@ -40,23 +40,6 @@ change_upto journal kept row history earlier =
     omega (arith, left, ap newest_epoch (history.chains row))
 
 -- ---- what is kept after each change
-
-judged_among : (f : Placed → Outcome) (all : List Placed) → committed_among all (map f all) ≡ filter (λ c. is_committed (f c)) all
-judged_among f [] = refl
-judged_among f (c ∷ more) = by (is_committed (f c)) (judged_among f more)
-  where
-    by : (b : Bool) → committed_among more (map f more) ≡ filter (λ d. is_committed (f d)) more →
-        cond b (c ∷ committed_among more (map f more)) (committed_among more (map f more))
-        ≡ cond b (c ∷ filter (λ d. is_committed (f d)) more) (filter (λ d. is_committed (f d)) more)
-    by true rest = ap (λ cs. c ∷ cs) rest
-    by false rest = rest
-
--- the candidates whose verdict is that they commit are those that commit
-pub verdicts_commit : (all : List Placed) (older : Epochs) → committed_among all (verdicts (all ∷ older)) ≡ committed (all ∷ older)
-verdicts_commit all older = judged_among (verdict_of (last_change older) (suc_length older) all) all
-  where
-    suc_length : Epochs → ℕ
-    suc_length epochs = length epochs + 1
 
 pub begins : (journal : Journal) → IsHistoryOf journal (record { horizon = 0; applied = 0; rows = [] })
 begins journal = record { sealed = omega arith; horizon = omega arith; chains = λ row. refl }

@@ -1,4 +1,4 @@
--- Laws: the touched rows of nets, and which changes touch known rows alone.
+-- Laws: where the changes of a net come from, the touched rows of nets, and which changes touch known rows alone.
 use Rattle.std.proofs.Common.{◌≡◌, ◌⊎◌, inl, inr, ⊎_elim, Bool, true, false, cond, Option, None, Some, unwrap_or, List, [], ◌∷◌, ◌++◌, All, Contains, refl, sym, ap, subst}
 use Rattle.std.proofs.lemmas.List.Elements.{All-head, All-tail}
 use Rattle.geo_base.specs.declared.row_id.RowId.{RowId}
@@ -79,3 +79,42 @@ touches_known set changes all earlier c later is touch none =
     known_in : (front : List RowChange) (d : RowChange) (back : List RowChange) → All (λ x. x.change ≡ Touch → x.before ≡ true) (front ++ d ∷ back) → d.change ≡ Touch → d.before ≡ true
     known_in [] d back each = All-head (λ x. x.change ≡ Touch → x.before ≡ true) d back each
     known_in (x ∷ front) d back each = known_in front d back (All-tail (λ y. y.change ≡ Touch → y.before ≡ true) x (front ++ d ∷ back) each)
+
+-- one of the changes makes this of the row
+abbrev pub IsMadeBy : List RowChange → RowId → Change → Type 0
+IsMadeBy changes row change = (c : RowChange) × Contains changes c × (c.row ≡ row) × (c.change ≡ change)
+
+made_later : (c : RowChange) (cs : List RowChange) (row : RowId) (change : Change) → IsMadeBy cs row change → IsMadeBy (c ∷ cs) row change
+made_later c cs row change made = (made.0, among_later c made.0 cs made.1, made.2, made.3)
+
+nothing_left : (left : Change) → None ≡ Some left → ⊥
+nothing_left left e = cc
+
+one_left : (change left : Change) → Some change ≡ Some left → change ≡ left
+one_left change left e = cc
+
+touched_left : (held : Option Change) (left : Change) → Some (unwrap_or held Touch) ≡ Some left → (held ≡ Some left) ⊎ (Touch ≡ left)
+touched_left None left e = inr (one_left Touch left e)
+touched_left (Some change) left e = inl e
+
+-- what a change leaves was left before it, or is the change
+left_or_made : (before : Bool) (change : Change) (held : Option Change) (left : Change) → left_by before change held ≡ Some left → (held ≡ Some left) ⊎ (change ≡ left)
+left_or_made before (Put image) held left e = inr (one_left (Put image) left e)
+left_or_made true Remove held left e = inr (one_left Remove left e)
+left_or_made false Remove held left e = absurd (nothing_left left e)
+left_or_made before Touch held left e = touched_left held left e
+
+-- what the changes leave of a row was left before them, or one of them makes it
+pub left_from : (changes : List RowChange) (held : RowId → Option Change) (row : RowId) (left : Change) →
+    left_of changes row (held row) ≡ Some left → (held row ≡ Some left) ⊎ IsMadeBy changes row left
+left_from [] held row left e = inl e
+left_from (c ∷ cs) held row left e =
+    ⊎_elim
+    (λ here. by (row_eq row c.row) refl here)
+    (λ later. inr (made_later c cs row left later))
+    (left_from cs (left_then c held) row left e)
+  where
+    by : (b : Bool) → row_eq row c.row ≡ b → cond b (left_by c.before c.change (held row)) (held row) ≡ Some left →
+        (held row ≡ Some left) ⊎ IsMadeBy (c ∷ cs) row left
+    by true is here = ⊎_elim inl (λ made. inr (c, among_first c cs, sym (row_same row c.row is), made)) (left_or_made c.before c.change (held row) left here)
+    by false is here = inl here

@@ -1,9 +1,9 @@
 use Rattle.std.proofs.Common.{length, map, sym, ap, ◌∙◌}
 use Rattle.std.proofs.lemmas.List.{length-map}
 use Rattle.std.proofs.lemmas.Result.{MatchResult-weaker}
-use Rattle.version_store.specs.inner.Gathering.{changes_among}
-use Rattle.version_store.proofs.Gathering.{gathered, as_many}
-use Rattle.version_store.proofs.writing.committed_changes.Goals as goal
+use Rattle.write_set.specs.inner.Gathering.{changes_among}
+use Rattle.write_set.proofs.Gathering.{gathered, as_many}
+use Rattle.write_set.proofs.committing.committed_changes.Goals as goal
 
 pub changes_among-requires : goal.changes_among-requires
 changes_among-requires c =

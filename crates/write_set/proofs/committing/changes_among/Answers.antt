@@ -1,7 +1,7 @@
 use Rattle.std.proofs.Common.{◌<◌, ◌++◌, length, map, sym, ap, ◌∙◌, arith}
-use Rattle.version_store.proofs.Gathering.{among_in, among_out}
-use Rattle.version_store.proofs.writing.changes_among.Goals as goal
-use Rattle.version_store.proofs.writing.changes_among.Goals.{then-is_committed+in_ok-add_each, else-is_committed}
+use Rattle.write_set.proofs.Gathering.{among_in, among_out}
+use Rattle.write_set.proofs.committing.changes_among.Goals as goal
+use Rattle.write_set.proofs.committing.changes_among.Goals.{then-is_committed+in_ok-add_each, else-is_committed}
 
 pub loop-place-preserved : goal.loop-place-preserved
 loop-place-preserved c =

@@ -1,5 +1,5 @@
 use Rattle.std.proofs.Common.{◌≡◌, ◌++◌, map, take}
-use Rattle.version_store.proofs.writing.add_each.Given as goal
+use Rattle.write_set.proofs.committing.add_each.Given as goal
 
 -- the items so far are added
 abbrev pub invariant-loop-item : goal.invariant-loop-item

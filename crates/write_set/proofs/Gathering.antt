@@ -6,10 +6,9 @@ use Rattle.write_set.specs.declared.batch.Batch.{Batch}
 use Rattle.write_set.specs.declared.candidate.Candidate.{Candidate}
 use Rattle.write_set.specs.Sets.{ChangeOfRow}
 use Rattle.write_set.specs.Journal.{Placed, placed_from, candidates_of}
-use Rattle.write_set.specs.Merge.{is_committed}
+use Rattle.write_set.specs.Merge.{committed_among, is_committed}
 use Rattle.write_set.specs.Snapshot.{changes_of}
-use Rattle.version_store.specs.Committing.{committed_among}
-use Rattle.version_store.specs.inner.Gathering.{all_items, changes_among}
+use Rattle.write_set.specs.inner.Gathering.{all_items, changes_among}
 
 abbrev sets_of : List Placed → List (List ChangeOfRow)
 sets_of all = map (λ c. c.set) all

@@ -1,6 +1,6 @@
 use Rattle.std.proofs.Common.{◌≡◌, map, take}
-use Rattle.version_store.specs.inner.Gathering.{changes_among}
-use Rattle.version_store.proofs.writing.changes_among.Given as goal
+use Rattle.write_set.specs.inner.Gathering.{changes_among}
+use Rattle.write_set.proofs.committing.changes_among.Given as goal
 
 -- the changes of the candidates so far are gathered
 abbrev pub invariant-loop-place : goal.invariant-loop-place

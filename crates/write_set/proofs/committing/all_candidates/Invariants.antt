@@ -1,6 +1,6 @@
 use Rattle.std.proofs.Common.{◌≡◌, map, take}
-use Rattle.version_store.specs.inner.Gathering.{all_items}
-use Rattle.version_store.proofs.writing.all_candidates.Given as goal
+use Rattle.write_set.specs.inner.Gathering.{all_items}
+use Rattle.write_set.proofs.committing.all_candidates.Given as goal
 
 -- the candidates of the batches so far are added
 abbrev pub invariant-loop-batch : goal.invariant-loop-batch
