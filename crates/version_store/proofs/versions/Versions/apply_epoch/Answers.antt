@@ -1,7 +1,7 @@
 use Rattle.std.proofs.Common.{[], ◌∷◌, ◌++◌, map, ap, ◌∙◌, subst, arith}
 use Rattle.write_set.specs.Journal.{candidates_of}
 use Rattle.write_set.specs.inner.LastChanges.{rows_altered}
-use Rattle.version_store.specs.Committing.{committed_among}
+use Rattle.write_set.specs.Merge.{committed_among}
 use Rattle.version_store.specs.History.{Kept, IsApplied}
 use Rattle.version_store.specs.laws.Growing.{applied_next}
 use Rattle.version_store.specs.inner.Noting.{Note}
