@@ -1,8 +1,6 @@
 //! Batches as bytes: one worked batch, faults with their places, limits, and bytes of any kind.
-use crate::bytes::marked;
-use crate::printing::batch_text;
-use crate::tables::two_tables;
-use crate::told::{Form, first_wrong};
+use crate::told::{Form, are_told};
+use codec_kit::{batch_text, marked, two_tables};
 use geo_schema::Schema;
 use set_codec::{CodecFault, batch_bytes, batch_size, read_batch};
 use std::alloc::Global;
@@ -21,24 +19,36 @@ region 2 epoch 5
 start 4; 0(1) -> (1, NULL); 1(7, 'é') -> ('é', TRUE, 7)
 start 3; 1(-1, '') -> ('', FALSE, -1); 1(0, 'a') removed";
 
-/// Whether the bytes of the batch, with this digit in their mark, are read as what it says, and what is read
-/// has its bytes in GGB2.
-fn is_worked_batch(alloc: Global, schema: &Schema, digit: u8) -> Result<bool, Fail> {
-    let batch = read_batch(alloc, schema, 3, marked(alloc, &BATCH, digit)?.as_slice())?;
+/// Fails unless the bytes of the batch, with this digit in their mark, are read as what it says, and what is read has
+/// its bytes in GGB2.
+fn is_worked_batch(alloc: Global, schema: &Schema, digit: u8) -> Result<(), Fail> {
+    let bytes = marked(alloc, &BATCH, digit)?;
+    let batch = read_batch(alloc, schema, 3, bytes.as_slice());
+    drop(bytes);
+    let batch = batch?;
     let size = batch_size(&batch);
     let text = batch_text(alloc, &batch);
     let spelled = batch_bytes(alloc, schema, &batch);
     drop(batch);
-    Ok(size == 88 && text?.as_str() == BATCH_TEXT && spelled?.as_slice() == BATCH.as_slice())
+    let text = text?;
+    if size == 88 && text.as_str() == BATCH_TEXT && spelled?.as_slice() == BATCH.as_slice() {
+        Ok(())
+    } else {
+        Err(Fail::new(text))
+    }
+}
+
+fn are_worked_batches(alloc: Global, schema: &Schema) -> Result<(), Fail> {
+    is_worked_batch(alloc, schema, b'1')?;
+    is_worked_batch(alloc, schema, b'2')
 }
 
 #[test]
 fn a_batch_is_read_in_both_formats(rt: HostRuntime) -> Result<(), Fail> {
     let schema = two_tables(rt.alloc())?;
-    for digit in *b"12" {
-        assert!(rt; is_worked_batch(rt.alloc(), &schema, digit)?);
-    }
-    Ok(())
+    let are_worked = are_worked_batches(rt.alloc(), &schema);
+    drop(schema);
+    are_worked
 }
 
 /// The tables, the number of regions, bytes behind a mark, and what these are told in each of the two
@@ -99,14 +109,8 @@ unique 1 0 #1 #1 #0 #2 64 2 2 0 1 97 0 2 @1 => NotOrdered(27)";
 
 #[test]
 fn bytes_of_batches_are_told(rt: HostRuntime) -> Result<(), Fail> {
-    for mark in ["GGB1", "GGB2"] {
-        assert_eq!(rt;
-            first_wrong(rt.alloc(), Form::Batch, mark, TOLD)?,
-            None,
-            "{mark}"
-        );
-    }
-    Ok(())
+    are_told(rt.alloc(), Form::Batch, "GGB1", TOLD)?;
+    are_told(rt.alloc(), Form::Batch, "GGB2", TOLD)
 }
 
 /// The same where the format matters: GGB1 has no touches.
@@ -141,11 +145,7 @@ unique 1 GGB2 0 #1 #1 #0 #1 64 3 0 => BadRow(23)";
 
 #[test]
 fn touches_are_told_of_by_format(rt: HostRuntime) -> Result<(), Fail> {
-    assert_eq!(rt;
-        first_wrong(rt.alloc(), Form::Batch, "", TOLD_OF_FORMATS)?,
-        None
-    );
-    Ok(())
+    are_told(rt.alloc(), Form::Batch, "", TOLD_OF_FORMATS)
 }
 
 /// Batches of many candidates.
@@ -155,8 +155,7 @@ numbers 1 GGB2 0 #1 #4097 *4097 => OverLimit(9, Candidates)";
 
 #[test]
 fn batches_have_at_most_4096_candidates(rt: HostRuntime) -> Result<(), Fail> {
-    assert_eq!(rt; first_wrong(rt.alloc(), Form::Batch, "", MANY)?, None);
-    Ok(())
+    are_told(rt.alloc(), Form::Batch, "", MANY)
 }
 
 /// What is near batches whose bytes were worked with their digits: in GGB1 the first 13 bytes of a batch that puts a
@@ -170,8 +169,7 @@ numbers 1 x4747423100000000020000000100000001000000010003010000000000000001 => B
 
 #[test]
 fn what_is_near_the_worked_batches_is_at_fault(rt: HostRuntime) -> Result<(), Fail> {
-    assert_eq!(rt; first_wrong(rt.alloc(), Form::Batch, "", NEAR)?, None);
-    Ok(())
+    are_told(rt.alloc(), Form::Batch, "", NEAR)
 }
 
 /// Whether so many of the batch's first bytes are told that they are short.
@@ -182,13 +180,22 @@ fn is_short(alloc: Global, schema: &Schema, cut: usize) -> bool {
     }
 }
 
+/// Fails with the first cut that isn't told that it is short.
+fn cuts_are_short(alloc: Global, schema: &Schema) -> Result<(), Fail> {
+    for cut in 0..BATCH.len() {
+        if !is_short(alloc, schema, cut) {
+            return Err(Fail::new(cut));
+        }
+    }
+    Ok(())
+}
+
 #[test]
 fn a_cut_batch_is_short(rt: HostRuntime) -> Result<(), Fail> {
     let schema = two_tables(rt.alloc())?;
-    for cut in 0..BATCH.len() {
-        assert!(rt; is_short(rt.alloc(), &schema, cut), "{cut}");
-    }
-    Ok(())
+    let are_short = cuts_are_short(rt.alloc(), &schema);
+    drop(schema);
+    are_short
 }
 
 /// What the batch with a byte behind it is told.
@@ -214,20 +221,33 @@ fn is_read_as_it_is(alloc: Global, schema: &Schema, bytes: &[u8]) -> Result<bool
     }
 }
 
-#[test]
-fn a_batch_with_a_changed_byte_is_read_as_it_is(rt: HostRuntime) -> Result<(), Fail> {
-    let schema = two_tables(rt.alloc())?;
-    for place in 0..BATCH.len() {
-        for byte in 0..=u8::MAX {
-            let mut bytes = BATCH;
-            bytes[place] = byte;
-            assert!(rt;
-                is_read_as_it_is(rt.alloc(), &schema, &bytes)?,
-                "{place} {byte}"
-            );
+/// Fails with the first byte at the place with which what is read isn't spelled by the bytes.
+fn are_read_as_they_are(alloc: Global, schema: &Schema, place: usize) -> Result<(), Fail> {
+    for byte in 0..=u8::MAX {
+        let mut bytes = marked(alloc, &BATCH, b'2')?;
+        if let Some(changed) = bytes.get_mut(place) {
+            *changed = byte;
+        }
+        if !is_read_as_it_is(alloc, schema, bytes.as_slice())? {
+            return Err(Fail::new(byte));
         }
     }
     Ok(())
+}
+
+fn changes_are_read(alloc: Global, schema: &Schema) -> Result<(), Fail> {
+    for place in 0..BATCH.len() {
+        are_read_as_they_are(alloc, schema, place)?;
+    }
+    Ok(())
+}
+
+#[test]
+fn a_batch_with_a_changed_byte_is_read_as_it_is(rt: HostRuntime) -> Result<(), Fail> {
+    let schema = two_tables(rt.alloc())?;
+    let are_read = changes_are_read(rt.alloc(), &schema);
+    drop(schema);
+    are_read
 }
 
 /// What a batch begins with, as much of it as the round says, and 40 random bytes: in even rounds of any
@@ -244,13 +264,21 @@ fn random_bytes(alloc: Global, state: &mut u64, round: usize) -> Result<Vec<u8>,
     Ok(bytes)
 }
 
+fn random_bytes_are_read(alloc: Global, schema: &Schema) -> Result<(), Fail> {
+    let mut state = 1u64;
+    for round in 0..1000usize {
+        let bytes = random_bytes(alloc, &mut state, round)?;
+        if !is_read_as_it_is(alloc, schema, &bytes)? {
+            return Err(Fail::new(round));
+        }
+    }
+    Ok(())
+}
+
 #[test]
 fn random_bytes_are_read_as_they_are(rt: HostRuntime) -> Result<(), Fail> {
     let schema = two_tables(rt.alloc())?;
-    let mut state = 1u64;
-    for round in 0..1000usize {
-        let bytes = random_bytes(rt.alloc(), &mut state, round)?;
-        assert!(rt; is_read_as_it_is(rt.alloc(), &schema, &bytes)?, "{round}");
-    }
-    Ok(())
+    let are_read = random_bytes_are_read(rt.alloc(), &schema);
+    drop(schema);
+    are_read
 }

@@ -1,28 +1,13 @@
-//! Tests of batches and packets as bytes.
+//! Tests of reading batches and packets from bytes: what bytes are told, one batch that is worked in both formats, its
+//! cuts and changes, and the packets that are no batches.
 //!
-//! They use only what `set_codec` offers, and make their schemas of texts that declare tables. What is
-//! wanted is worked by hand from the forms of the bytes.
+//! They use what `set_codec` offers, over words of `codec_kit`. What is wanted is worked by hand from the forms of the
+//! bytes.
 #![tactic(auto)]
 
 #[cfg(test)]
 mod batches;
 #[cfg(test)]
-mod building;
-#[cfg(test)]
-mod built;
-#[cfg(test)]
-mod bytes;
-#[cfg(test)]
-mod cells;
-#[cfg(test)]
-mod fitting;
-#[cfg(test)]
-mod lines;
-#[cfg(test)]
 mod packets;
-#[cfg(test)]
-mod printing;
-#[cfg(test)]
-mod tables;
 #[cfg(test)]
 mod told;

@@ -1,7 +1,6 @@
 //! Packets as bytes: spellings, faults with their places, and the limit of a batch's bytes.
-use crate::bytes::bytes_of;
-use crate::tables::schema_named;
-use crate::told::{Form, first_wrong};
+use crate::told::{Form, are_told};
+use codec_kit::{bytes_of, schema_named};
 use set_codec::{Packet, packet_bytes, read_packet};
 use std::alloc::Global;
 use std::test::Fail;
@@ -25,8 +24,8 @@ fn a_fetch_has_its_spelling(rt: HostRuntime) -> Result<(), Fail> {
     Ok(())
 }
 
-/// Whether the packet is read and spelled as it stands.
-fn is_read_as_it_is(alloc: Global, words: &str) -> Result<bool, Fail> {
+/// Fails unless the packet is read and spelled as it stands.
+fn is_read_as_it_is(alloc: Global, words: &str) -> Result<(), Fail> {
     let bytes = bytes_of(alloc, words)?;
     let schema = schema_named(alloc, "numbers")?;
     let packet = read_packet(alloc, &schema, 2, &bytes);
@@ -34,7 +33,11 @@ fn is_read_as_it_is(alloc: Global, words: &str) -> Result<bool, Fail> {
     let packet = packet?;
     let found = packet_bytes(alloc, &packet);
     drop(packet);
-    Ok(found?.as_slice() == bytes.as_slice())
+    if found?.as_slice() == bytes.as_slice() {
+        Ok(())
+    } else {
+        Err(Fail::new(words))
+    }
 }
 
 /// One that asks for a batch, and one with a batch in each format.
@@ -46,7 +49,7 @@ const PACKETS: &str = "\
 #[test]
 fn packets_are_spelled_as_they_are_read(rt: HostRuntime) -> Result<(), Fail> {
     for words in PACKETS.lines() {
-        assert!(rt; is_read_as_it_is(rt.alloc(), words)?, "{words}");
+        is_read_as_it_is(rt.alloc(), words)?;
     }
     Ok(())
 }
@@ -91,8 +94,7 @@ numbers 2 1 1 GGB1 0 #1 #4097 => OverLimit(11, Candidates)";
 
 #[test]
 fn bytes_of_packets_are_told(rt: HostRuntime) -> Result<(), Fail> {
-    assert_eq!(rt; first_wrong(rt.alloc(), Form::Packet, "", TOLD)?, None);
-    Ok(())
+    are_told(rt.alloc(), Form::Packet, "", TOLD)
 }
 
 /// Batches of one candidate: 1,024 rows of 1,024 bytes have 1,048,576.
@@ -104,8 +106,7 @@ texts 1 GGB2 0 #1 #1 %1025,0 => OverLimit(17, Rows)";
 
 #[test]
 fn limits_of_a_candidate(rt: HostRuntime) -> Result<(), Fail> {
-    assert_eq!(rt; first_wrong(rt.alloc(), Form::Batch, "", SETS)?, None);
-    Ok(())
+    are_told(rt.alloc(), Form::Batch, "", SETS)
 }
 
 /// Batches of four candidates of 1,024 rows, of which three have as many bytes as they may, and what stands before
@@ -132,8 +133,6 @@ texts 2 1 2 GGB1 0 #1 #4 %1024,1010 %1024,1010 %1024,1010 %1024,966 => BadTag(1)
 
 #[test]
 fn limits_of_a_batch(rt: HostRuntime) -> Result<(), Fail> {
-    for (form, lines) in [(Form::Batch, LONG_BATCHES), (Form::Packet, LONG_PACKETS)] {
-        assert_eq!(rt; first_wrong(rt.alloc(), form, "", lines)?, None);
-    }
-    Ok(())
+    are_told(rt.alloc(), Form::Batch, "", LONG_BATCHES)?;
+    are_told(rt.alloc(), Form::Packet, "", LONG_PACKETS)
 }

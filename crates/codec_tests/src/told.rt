@@ -1,8 +1,6 @@
 //! What bytes are told, by the lines of a table.
-use crate::bytes::bytes_behind;
-use crate::lines::line_of;
-use crate::printing::is_answer;
-use crate::tables::schema_named;
+use codec_kit::{bytes_behind, line_of, schema_named};
+use geo_base::NoMemory;
 use geo_schema::Schema;
 use set_codec::{CodecFault, read_batch, read_packet};
 use std::alloc::Global;
@@ -28,6 +26,14 @@ fn fault_of(
     }
 }
 
+/// Whether this is told: that the bytes fit, or the fault as it is written in Rust.
+fn is_answer(alloc: Global, told: Option<CodecFault>, want: &str) -> Result<bool, NoMemory> {
+    match told {
+        Some(fault) => Ok(format!(in alloc; "{fault:?}")?.as_str() == want),
+        None => Ok(want == "fits"),
+    }
+}
+
 fn is_told(alloc: Global, form: Form, mark: &str, text: &str) -> Result<bool, Fail> {
     let line = line_of(text)?;
     let regions = line.word.parse()?;
@@ -39,18 +45,13 @@ fn is_told(alloc: Global, form: Form, mark: &str, text: &str) -> Result<bool, Fa
     Ok(is_answer(alloc, fault, line.want)?)
 }
 
-/// The first line whose bytes, behind a mark, are told something else. A line has its tables, the number of regions, the
-/// bytes, an arrow and what they are told.
-pub fn first_wrong(
-    alloc: Global,
-    form: Form,
-    mark: &str,
-    lines: &str,
-) -> Result<Option<String>, Fail> {
+/// Fails with the first line whose bytes, behind a mark, are told something else. A line has its tables, the number of
+/// regions, the bytes, an arrow and what they are told.
+pub fn are_told(alloc: Global, form: Form, mark: &str, lines: &str) -> Result<(), Fail> {
     for line in lines.lines() {
         if !is_told(alloc, form, mark, line)? {
-            return Ok(Some(String::from_str(alloc, line)?));
+            return Err(Fail::new(line));
         }
     }
-    Ok(None)
+    Ok(())
 }

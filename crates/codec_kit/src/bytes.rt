@@ -18,8 +18,8 @@ fn add_number(out: &mut Vec<u8>, digits: &str) -> Result<(), Fail> {
 
 fn add_cell(out: &mut Vec<u8>, digits: &str) -> Result<(), Fail> {
     let number: i64 = digits.parse()?;
-    out.push(1)?;
-    Ok(out.extend_from_slice(&number.to_be_bytes())?)
+    let [a, b, c, d, e, f, g, h] = number.to_be_bytes();
+    Ok(out.extend_from_slice(&[1, a, b, c, d, e, f, g, h])?)
 }
 
 fn add_digits(alloc: Global, out: &mut Vec<u8>, digits: &str) -> Result<(), Fail> {
@@ -37,21 +37,19 @@ fn add_touching(out: &mut Vec<u8>, digits: &str) -> Result<(), Fail> {
 
 /// A put of the row with this key and so many letters, of which it has 14 bytes more.
 fn add_put(out: &mut Vec<u8>, key: u32, letters: u16) -> Result<(), NoMemory> {
-    out.extend_from_slice(&[0, 1, 1, 0, 0, 0, 0])?;
-    out.extend_from_slice(&key.to_be_bytes())?;
-    out.push(2)?;
-    out.extend_from_slice(&letters.to_be_bytes())?;
+    let [a, b, c, d] = key.to_be_bytes();
+    let [e, f] = letters.to_be_bytes();
+    out.extend_from_slice(&[0, 1, 1, 0, 0, 0, 0, a, b, c, d, 2, e, f])?;
     let end = out.len().saturating_add(usize::from(letters));
     Ok(out.resize(end, b'x')?)
 }
 
 /// A candidate with start 0 that puts so many rows of 1,024 bytes each, but for the first, which has so many letters.
 fn add_puts(out: &mut Vec<u8>, rows: u32, first: u16) -> Result<(), NoMemory> {
-    out.extend_from_slice(&[0; 4])?;
-    out.extend_from_slice(&rows.to_be_bytes())?;
-    add_put(out, 0, first)?;
-    for key in 1..rows {
-        add_put(out, key, 1010)?;
+    let [a, b, c, d] = rows.to_be_bytes();
+    out.extend_from_slice(&[0, 0, 0, 0, a, b, c, d])?;
+    for key in 0..rows {
+        add_put(out, key, if key == 0 { first } else { 1010 })?;
     }
     Ok(())
 }

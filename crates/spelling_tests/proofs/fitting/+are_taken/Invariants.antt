@@ -1,5 +1,5 @@
 use Rattle.std.proofs.Common.{length}
-use Rattle.codec_tests.proofs.fitting.+are_taken.Given as goal
+use Rattle.spelling_tests.proofs.fitting.+are_taken.Given as goal
 
 -- each turn takes a cell
 abbrev pub decreases-are_taken : goal.decreases-are_taken

@@ -2,7 +2,7 @@
 ghost use Rattle.std.specs.Prelude.{◌≡◌, true, All, IsTrue};
 
 use crate::cells::cells_of;
-use crate::lines::halves;
+use codec_kit::halves;
 use geo_base::{Key, RowId, RowImage};
 use std::alloc::Global;
 use std::test::Fail;

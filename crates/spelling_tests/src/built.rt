@@ -1,11 +1,7 @@
 //! Batches and packets that are built and not read, as bytes.
 use crate::building::batch_of;
-use crate::bytes::{bytes_of, marked};
 use crate::fitting::fits;
-use crate::lines::{halves, line_of};
-use crate::printing::batch_text;
-use crate::tables::schema_named;
-use geo_base::RegionNo;
+use codec_kit::{batch_text, bytes_of, halves, line_of, marked, schema_named};
 use geo_schema::Schema;
 use set_codec::{ByteList, Packet, batch_bytes, batch_size, packet_bytes, read_batch};
 use std::alloc::Global;
@@ -79,15 +75,15 @@ fn is_spelled(alloc: Global, text: &str) -> Result<bool, Fail> {
     is
 }
 
-/// The first line whose batch is spelled otherwise. A line has the batch's tables, the digits of the formats that it is
-/// read in, the batch, an arrow, how many bytes it has in GGB2, and these bytes.
-fn first_wrong(alloc: Global, lines: &str) -> Result<Option<String>, Fail> {
+/// Fails with the first line whose batch is spelled otherwise. A line has the batch's tables, the digits of the formats
+/// that it is read in, the batch, an arrow, how many bytes it has in GGB2, and these bytes.
+fn are_spelled(alloc: Global, lines: &str) -> Result<(), Fail> {
     for line in lines.lines() {
         if !is_spelled(alloc, line)? {
-            return Ok(Some(String::from_str(alloc, line)?));
+            return Err(Fail::new(line));
         }
     }
-    Ok(None)
+    Ok(())
 }
 
 const BUILT: &str = "\
@@ -102,8 +98,7 @@ unique 2 0 1 0: 64 'a -> touched => 27 GGB2 0 #1 #1 #0 #1 64 3 2 0 1 97";
 
 #[test]
 fn built_batches_have_their_spellings(rt: HostRuntime) -> Result<(), Fail> {
-    assert_eq!(rt; first_wrong(rt.alloc(), BUILT)?, None);
-    Ok(())
+    are_spelled(rt.alloc(), BUILT)
 }
 
 /// Batches whose bytes were worked with their digits.
@@ -115,39 +110,34 @@ numbers 12 0 2  => 13 x47474232000000000200000000";
 
 #[test]
 fn worked_batches_are_read_and_spelled(rt: HostRuntime) -> Result<(), Fail> {
-    assert_eq!(rt; first_wrong(rt.alloc(), WORKED)?, None);
-    Ok(())
+    are_spelled(rt.alloc(), WORKED)
 }
 
-/// The bytes of the batch of the words.
-fn batch_spelled(alloc: Global, schema: &Schema, words: &str) -> Result<Vec<u8>, Fail> {
+/// The bytes of the batch of the words over the tables.
+fn batch_spelled(alloc: Global, tables: &str, words: &str) -> Result<Vec<u8>, Fail> {
     let batch = batch_of(alloc, words)?;
-    let bytes = spelled(alloc, schema, &batch);
+    let schema = schema_named(alloc, tables)?;
+    let bytes = spelled(alloc, &schema, &batch);
+    drop(schema);
     drop(batch);
     bytes
 }
 
-/// Whether the packet with these bytes of a batch is spelled by the words.
-fn is_packet(alloc: Global, to: RegionNo, bytes: Vec<u8>, words: &str) -> Result<bool, Fail> {
-    let packet = Packet::Batch {
-        to,
-        bytes: ByteList::new(bytes),
-    };
+/// Fails unless the packet of the line has its spelling. A line has the tables, the region that the packet goes to, the
+/// batch, an arrow and the packet's bytes.
+fn is_packet_spelled(alloc: Global, text: &str) -> Result<(), Fail> {
+    let line = line_of(text)?;
+    let to = line.word.parse()?;
+    let bytes = ByteList::new(batch_spelled(alloc, line.tables, line.words)?);
+    let packet = Packet::Batch { to, bytes };
     let found = packet_bytes(alloc, &packet);
     drop(packet);
     let found = found?;
-    Ok(found.as_slice() == bytes_of(alloc, words)?.as_slice())
-}
-
-/// Whether the packet of the line has its spelling. A line has the tables, the region that the packet goes to, the batch,
-/// an arrow and the packet's bytes.
-fn is_packet_spelled(alloc: Global, text: &str) -> Result<bool, Fail> {
-    let line = line_of(text)?;
-    let to = line.word.parse()?;
-    let schema = schema_named(alloc, line.tables)?;
-    let bytes = batch_spelled(alloc, &schema, line.words);
-    drop(schema);
-    is_packet(alloc, to, bytes?, line.want)
+    if found.as_slice() == bytes_of(alloc, line.want)?.as_slice() {
+        Ok(())
+    } else {
+        Err(Fail::new(text))
+    }
 }
 
 const PACKETS: &str = "\
@@ -159,7 +149,7 @@ unique 7 0 1 0: 0 1 -> 1 'a; 64 'a -> 'a 1; 64 'b -> removed => 1 7 GGB2 0 #1 #1
 #[test]
 fn built_packets_have_their_spellings(rt: HostRuntime) -> Result<(), Fail> {
     for line in PACKETS.lines() {
-        assert!(rt; is_packet_spelled(rt.alloc(), line)?, "{line}");
+        is_packet_spelled(rt.alloc(), line)?;
     }
     Ok(())
 }

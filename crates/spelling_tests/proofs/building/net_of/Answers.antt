@@ -1,7 +1,7 @@
 use Rattle.std.proofs.Common.{◌≡◌, true, All}
 use Rattle.write_set.specs.declared.row_change.RowChange.{RowChange}
 use Rattle.write_set.specs.laws.Nets.{touches_known}
-use Rattle.codec_tests.proofs.building.net_of.Goals as goal
+use Rattle.spelling_tests.proofs.building.net_of.Goals as goal
 
 -- each row is said to be in the snapshot, touched ones too
 pub with-requires : goal.with-requires
