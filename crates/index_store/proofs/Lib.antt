@@ -1,0 +1,11 @@
+mod Found
+mod Having
+mod Apart
+mod Applied
+mod Dropped
+mod Trimmed
+mod Bordering
+mod RisingKeys
+mod Between
+mod Indexed
+mod Noting

@@ -1,0 +1,9 @@
+pub mod Indexes
+pub mod Kept
+pub mod Order
+pub mod Pairs
+pub mod Ranges
+pub mod Rows
+pub mod Store
+pub mod inner
+pub mod laws
