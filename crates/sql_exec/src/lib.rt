@@ -8,7 +8,7 @@
 //! order.
 //!
 //! `specs/Changes.antt` says what holds of the changes of a statement that writes. Laws say that it holds of each,
-//! and that rows of a schema stay such rows under these changes.
+//! that rows of a schema stay such rows under these changes, and which row a duplicate is.
 #![tactic(auto)]
 
 mod choosing;
@@ -32,8 +32,8 @@ pub use effect::Effect;
 pub use for_update::{Locked, lock};
 pub use inserting::insert;
 pub use laws::{
-    deleted_rows_are_there, fitting_is_the_rule_of_rows, inserted_rows_fit, rows_stay_rows,
-    touched_rows_are_there, updated_rows_fit,
+    deleted_rows_are_there, duplicates_are_of_the_table, fitting_is_the_rule_of_rows,
+    inserted_rows_fit, rows_stay_rows, touched_rows_are_there, updated_rows_fit,
 };
 pub use lines::LineList;
 pub use queries::select;
