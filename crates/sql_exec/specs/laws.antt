@@ -3,6 +3,7 @@ pub mod Duplicates
 pub mod Fitting
 pub mod Inserted
 pub mod KeptRows
+pub mod OwnNets
 pub mod Parts
 pub mod Reading
 pub mod Sound

@@ -7,8 +7,9 @@
 //! rows, and nothing else is handed more rows than its plan reaches. Queries are of one table, without groups and
 //! order.
 //!
-//! `specs/Changes.antt` says what holds of the changes of a statement that writes. Laws say that it holds of each,
-//! that rows of a schema stay such rows under these changes, and which row a duplicate is.
+//! `specs/Changes.antt` says what holds of the changes of a statement that writes, and of a transaction's net behind
+//! it. Laws say that it holds of each, that rows of a schema stay such rows under these changes, and which row a
+//! duplicate is.
 #![tactic(auto)]
 
 mod choosing;
@@ -33,7 +34,8 @@ pub use for_update::{Locked, lock};
 pub use inserting::insert;
 pub use laws::{
     deleted_rows_are_there, duplicates_are_of_the_table, fitting_is_the_rule_of_rows,
-    inserted_rows_fit, rows_stay_rows, touched_rows_are_there, updated_rows_fit,
+    inserted_rows_fit, own_nets_stay_own_nets, rows_stay_rows, touched_rows_are_there,
+    updated_rows_fit,
 };
 pub use lines::LineList;
 pub use queries::select;
