@@ -91,5 +91,5 @@ within_limit lines = if nat_lt MAX_LINES (length lines) then Err fault.ResultToo
 -- ---- the whole
 
 -- what a query makes of the cells of the rows, or pairs of rows, that its conditions keep, or the first fault
-unfoldable pub grouped_of : BoundSelect → List (List Cell) → Result (List (List Cell)) ExecFault
-grouped_of query rows = lines_from query rows >>= λ lines. within_limit (cut query.limit (ordered query.order lines))
+unfoldable pub result_of : BoundSelect → List (List Cell) → Result (List (List Cell)) ExecFault
+result_of query rows = lines_from query rows >>= λ lines. within_limit (cut query.limit (ordered query.order lines))

@@ -3,7 +3,7 @@ use Rattle.std.proofs.Common.{◌≡◌, ℕ, Bool, true, false, if◌then◌els
 use Rattle.std.proofs.lemmas.List.{append-nil, length-map, map-append, take-map}
 use Rattle.geo_base.specs.Results.{◌>>=◌}
 use Rattle.geo_base.specs.declared.cell.Cell.{Cell}
-use Rattle.group_exec.specs.Results.{LineOfRow, cut, grouped_of, ordered, plain_cell, put_in, row_line, within_limit}
+use Rattle.group_exec.specs.Results.{LineOfRow, cut, result_of, ordered, plain_cell, put_in, row_line, within_limit}
 use Rattle.row_source.specs.Matches.{alone, in_statement, kept_of, matches_of, pair_cells}
 use Rattle.row_source.specs.Sources.{images, of_table}
 use Rattle.row_source.specs.declared.fault.ExecFault.{ExecFault}
@@ -93,8 +93,8 @@ short_enough limit lines =
 
 -- ---- the whole
 
-pub plain_lines : (query : BoundSelect) (rows : Rows) → query.grouped ≡ false → query.order ≡ [] → grouped_of query rows ≡ limited_lines query.items query.limit rows
-unfolding grouped_of limited_lines lines_over
+pub plain_lines : (query : BoundSelect) (rows : Rows) → query.grouped ≡ false → query.order ≡ [] → result_of query rows ≡ limited_lines query.items query.limit rows
+unfolding result_of limited_lines lines_over
 plain_lines query rows ungrouped no_order =
     rw (ungrouped, no_order)
     (same_behind (each (row_line query.items) rows) (λ lines. within_limit (cut query.limit (ordered [] lines)))
@@ -104,9 +104,9 @@ plain_lines query rows ungrouped no_order =
 
 -- the pairs of one table are made to lines as its rows are
 pub alone_same : (query : BoundSelect) (number : ℕ) (rows : Table) → query.tables ≡ number ∷ [] →
-    answer_of query rows ≡ (kept_rows query.tests (images (of_table number rows)) >>= grouped_of query)
-unfolding answer_of matches_of kept_rows grouped_of
+    answer_of query rows ≡ (kept_rows query.tests (images (of_table number rows)) >>= result_of query)
+unfolding answer_of matches_of kept_rows result_of
 alone_same query number rows is =
     rw is
-    (both_behind (kept_of pair_cells query.tests (map alone (images (of_table number rows)))) (map pair_cells) (grouped_of query)
-    ∙ ap (λ (r : Answer). r >>= grouped_of query) (kept_alone query.tests (images (of_table number rows))))
+    (both_behind (kept_of pair_cells query.tests (map alone (images (of_table number rows)))) (map pair_cells) (result_of query)
+    ∙ ap (λ (r : Answer). r >>= result_of query) (kept_alone query.tests (images (of_table number rows))))

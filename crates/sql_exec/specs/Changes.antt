@@ -1,6 +1,6 @@
 -- What holds of the changes of each statement that writes, whatever it says: they name rows once each, which are there
--- or aren't, and what they put are rows of the schema.
-use Rattle.std.specs.Prelude.{◌≡◌, ⊤, ℕ, true, false, None, IsSome, List, map, slice_index_or}
+-- or aren't, and what they put are rows of the schema. And what holds of a transaction's net behind each of its statements.
+use Rattle.std.specs.Prelude.{◌≡◌, ⊤, ℕ, true, false, None, Some, IsSome, List, map, slice_index_or}
 use Rattle.std.specs.List.{All, IsDistinct}
 use Rattle.std.specs.List.Sorted.{IsStrictlySortedBy}
 use Rattle.std.specs.Option.{is_some}
@@ -14,12 +14,13 @@ use Rattle.geo_schema.specs.Schemas.{Tables}
 use Rattle.geo_schema.specs.Tables.{no_column}
 use Rattle.row_source.specs.declared.fault.ExecFault.{ExecFault}
 use Rattle.row_source.specs.declared.fault.ExecFault.TheVariants as fault
-use Rattle.row_source.specs.Sources.{Fits}
+use Rattle.row_source.specs.Sources.{AreRowsOf, Fits}
 use Rattle.write_set.specs.declared.change.Change.{Change}
 use Rattle.write_set.specs.declared.change.Change.TheVariants.{Put, Remove, Touch}
 use Rattle.write_set.specs.declared.row_change.RowChange.{RowChange}
+use Rattle.write_set.specs.Net.{change_in}
 use Rattle.write_set.specs.Overlay.{Table, image_in, overlay}
-use Rattle.write_set.specs.Sets.{ChangeOfRow, has_row}
+use Rattle.write_set.specs.Sets.{ChangeOfRow, Rises, has_row}
 
 -- ---- faults of cells
 
@@ -75,3 +76,20 @@ pub record AreTouches (tables : Tables) (number : ℕ) (base : Table) (own : Lis
   pub rows : AreChangesOfRows (λ change. change ≡ Touch) tables number base own touches
   pub lacked : All (λ c. has_row c.row own ≡ false) touches
   pub known : All (λ c. c.before ≡ true) touches
+
+-- ---- the net of a transaction
+
+-- the row of a change fits the schema: with the image that is put, and where none is put, with some image
+abbrev pub HasFittingRow : Tables → ChangeOfRow → Type 0
+HasFittingRow tables (row, Put image) = Fits tables (row, image)
+HasFittingRow tables (row, Remove) = (image : RowImage) × Fits tables (row, image)
+HasFittingRow tables (row, Touch) = (image : RowImage) × Fits tables (row, image)
+
+-- a transaction's net over its base, as its statements may leave it: laid over the base it gives rows of the schema; each row
+-- that it has fits the schema, also one that it removes or touches; and what it touches is in the base
+pub record IsOwnNet (tables : Tables) (base : Table) (own : List ChangeOfRow) : Type 0 where
+  pub base_rising : Rises base
+  pub rising : Rises own
+  pub rows : AreRowsOf tables (overlay base own)
+  pub named : All (HasFittingRow tables) own
+  pub touched : (row : RowId) → change_in own row ≡ Some Touch → IsSome (image_in base row)

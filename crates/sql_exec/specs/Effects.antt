@@ -34,7 +34,7 @@ use Rattle.write_set.specs.declared.change.Change.{Change}
 use Rattle.write_set.specs.declared.change.Change.TheVariants.{Put, Remove, Touch}
 use Rattle.write_set.specs.declared.row_change.RowChange.{RowChange}
 use Rattle.write_set.specs.declared.set_fault.SetFault.TheVariants as limit
-use Rattle.write_set.specs.Net.{HasNetCause, IsNet, IsWithinLimits}
+use Rattle.write_set.specs.Net.{HasNetCause, HasTouchesOf, IsNet, IsWithinLimits}
 use Rattle.write_set.specs.Overlay.{Table, image_in, overlay}
 use Rattle.write_set.specs.Sets.{ChangeOfRow, has_row}
 
@@ -163,9 +163,11 @@ IsRefused own (Ok changes) fault.TooManyRows = HasNetCause own changes limit.Too
 IsRefused own (Ok changes) fault.TooLarge = HasNetCause own changes limit.TooLarge
 IsRefused own (Ok changes) _ = ⊥
 
--- the transaction's net after changes: no greater than it may be
+-- the transaction's net after changes: no greater than it may be, and what it touches it has touched before, or a change says
+-- that the snapshot has it
 pub record IsNetAfter (own : List ChangeOfRow) (changes : List RowChange) (net : List ChangeOfRow) : Type 0 where
   pub is_net : IsNet own changes net
+  pub touches : HasTouchesOf own changes net
   pub within : IsWithinLimits net
 
 -- what a statement that writes answers: how many rows it changes, and the net after them

@@ -1,7 +1,9 @@
 -- Laws, with their proofs, for the proofs of the crates above.
+pub mod Duplicates
 pub mod Fitting
 pub mod Inserted
 pub mod KeptRows
+pub mod OwnNets
 pub mod Parts
 pub mod Reading
 pub mod Sound

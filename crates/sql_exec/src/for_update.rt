@@ -1,11 +1,12 @@
 //! Queries that lock.
-ghost use Rattle.std.specs.Prelude.{◌≡◌, ◌+◌, ◌≤◌, ◌⊎◌, [], length, map, IfOk, IfErr};
+ghost use Rattle.std.specs.Prelude.{◌≡◌, ◌+◌, ◌≤◌, ◌⊎◌, true, [], length, map, IfOk, IfErr};
+ghost use Rattle.std.specs.List.{All};
 ghost use Rattle.geo_base.specs.declared.limits.TheConstants.{MAX_LINE_CELLS};
 ghost use Rattle.geo_schema.specs.Schemas.{IsTableNo};
 ghost use Rattle.row_source.specs.Bounds.{steps_of};
 ghost use Rattle.row_source.specs.Sources.{AreRowsOf};
 ghost use Rattle.row_source.specs.declared.fault.ExecFault.TheVariants as fault;
-ghost use Rattle.sql_bind.specs.Sound.{IsSoundLock};
+ghost use Rattle.sql_bind.specs.Sound.{IsSoundLock, is_plain};
 ghost use Rattle.sql_exec.specs.Effects.{IsLocked, IsRefused, lock_changes, touches_in};
 ghost use Rattle.sql_exec.specs.inner.Handed.{AreHanded};
 ghost use Rattle.sql_exec.specs.inner.Touching.{locked_rows};
@@ -14,10 +15,10 @@ ghost use Rattle.write_set.specs.Overlay.{overlay};
 
 use crate::choosing::chosen_rows;
 use crate::keeping::kept_rows;
-use crate::lines::limited_lines;
+use crate::lines::{LineList, limited_lines};
 use crate::netting::net_after;
 use crate::touching::touches_of;
-use geo_base::{Line, Many, RowImage, TableNo};
+use geo_base::{RowImage, TableNo};
 use geo_schema::Schema;
 use row_source::{ExecFault, RowSource, Steps};
 use sql_bind::BoundSelect;
@@ -25,9 +26,6 @@ use sql_plan::tests_drop_what_plans_leave_out;
 use std::alloc::Global;
 use std::sync::ledger::Ledger;
 use write_set::WriteSet;
-
-/// Lines of an answer.
-pub type LineList = Many<Line>;
 
 /// What a query with FOR UPDATE has done.
 #[derive(Debug, Drop)]
@@ -51,6 +49,7 @@ fn lock_rows<R: RowSource>(
 ) -> Result<Locked, ExecFault>
     requires some { 1 ≤ length query.now.items }
     requires few { length query.now.items ≤ MAX_LINE_CELLS }
+    requires plain { All (λ i. is_plain i ≡ true) query.now.items }
     requires table { IsTableNo schema.now table }
     requires laid { R.rows source.now ≡ overlay (R.base source.now) own.now }
     requires handed { AreHanded schema.now table (R.rows source.now) (map (λ row. row.now) rows.now) }

@@ -1,20 +1,26 @@
 //! Laws of statements that write, each the contract of a function that does nothing.
-ghost use Rattle.std.specs.Prelude.{◌≡◌, ◌↔◌, List, All, Ok, Err};
+ghost use Rattle.std.specs.Prelude.{◌≡◌, ◌≢◌, ◌↔◌, List, [], All, Result, Ok, Err};
 ghost use Rattle.geo_base.specs.declared.cell.Cell.{Cell};
+ghost use Rattle.geo_base.specs.declared.row_id.RowId.{RowId};
+ghost use Rattle.geo_base.specs.declared.row_image.RowImage.{RowImage};
 ghost use Rattle.geo_schema.specs.declared.fault.CellFault.{CellFault};
 ghost use Rattle.geo_schema.specs.declared.table.TableDef.{TableDef};
 ghost use Rattle.geo_schema.specs.Rows.{IsRow, IsRowFault};
 ghost use Rattle.geo_schema.specs.Schemas.{IsSchema, Tables};
 ghost use Rattle.row_source.specs.declared.fault.ExecFault.{ExecFault};
-ghost use Rattle.row_source.specs.Sources.{AreRowsOf};
+ghost use Rattle.row_source.specs.declared.fault.ExecFault.TheVariants as fault;
+ghost use Rattle.row_source.specs.Sources.{AreRowsOf, Fits};
 ghost use Rattle.sql_bind.specs.declared.bound.BoundDelete.{BoundDelete};
 ghost use Rattle.sql_bind.specs.declared.bound.BoundInsert.{BoundInsert};
 ghost use Rattle.sql_bind.specs.declared.bound.BoundSelect.{BoundSelect};
 ghost use Rattle.sql_bind.specs.declared.bound.BoundUpdate.{BoundUpdate};
 ghost use Rattle.sql_bind.specs.Names.{column_types};
 ghost use Rattle.sql_bind.specs.Sound.{IsSoundInsert, IsSoundUpdate};
-ghost use Rattle.sql_exec.specs.Changes.{AreChangesOfRows, ArePutsOfNewRows, AreTouches, IsFaultFor, IsPut, IsSoundChange};
-ghost use Rattle.sql_exec.specs.Effects.{delete_changes, fitting, insert_changes, lock_changes, locked_table, update_changes};
+ghost use Rattle.sql_exec.specs.declared.effect.Effect.{Effect};
+ghost use Rattle.sql_exec.specs.declared.for_update.Locked.{Locked};
+ghost use Rattle.sql_exec.specs.Answers.{answer_of};
+ghost use Rattle.sql_exec.specs.Changes.{AreChangesOfRows, ArePutsOfNewRows, AreTouches, IsFaultFor, IsOwnNet, IsPut, IsSoundChange};
+ghost use Rattle.sql_exec.specs.Effects.{IsDone, IsLocked, IsRefused, delete_changes, fitting, insert_changes, lock_changes, locked_table, touches_in, update_changes};
 ghost use Rattle.sql_expr.specs.Rows.{HasTypes};
 ghost use Rattle.write_set.specs.declared.change.Change.{Change};
 ghost use Rattle.write_set.specs.declared.change.Change.TheVariants.{Remove};
@@ -76,3 +82,41 @@ pub fn rows_stay_rows()
         Rises base → Rises own → AreRowsOf tables (overlay base own) → All (IsSoundChange tables base) changes → IsNet own changes net →
         AreRowsOf tables (overlay base net) }
 {}
+
+/// The row that an INSERT names as a duplicate is one of its table, and some image fits under it, so that it can be printed
+/// by the table's columns. Nothing else names one: no UPDATE, no DELETE and no query, with FOR UPDATE or without. A call
+/// that answers a duplicate tells the fault of its statement, and never the limit of a net.
+pub fn duplicates_are_of_the_table()
+    ensures insert { (tables : Tables) (insert : BoundInsert) (base : Table) (own : List ChangeOfRow) (row : RowId) →
+        IsSchema tables → IsSoundInsert tables insert → insert_changes tables insert base own ≡ Err (fault.Duplicate row) →
+        (row.table ≡ insert.table) × ((image : RowImage) × Fits tables (row, image)) }
+    ensures update { (tables : Tables) (update : BoundUpdate) (base : Table) (own : List ChangeOfRow) (row : RowId) →
+        update_changes tables update base own ≢ Err (fault.Duplicate row) }
+    ensures delete { (delete : BoundDelete) (base : Table) (own : List ChangeOfRow) (row : RowId) →
+        delete_changes delete base own ≢ Err (fault.Duplicate row) }
+    ensures lock { (query : BoundSelect) (base : Table) (own : List ChangeOfRow) (row : RowId) →
+        touches_in (lock_changes query base own) ≢ Err (fault.Duplicate row) }
+    ensures answer { (query : BoundSelect) (rows : Table) (row : RowId) → answer_of query rows ≢ Err (fault.Duplicate row) }
+    ensures told { (own : List ChangeOfRow) (made : Result (List RowChange) ExecFault) (row : RowId) →
+        IsRefused own made (fault.Duplicate row) → made ≡ Err (fault.Duplicate row) }
+{
+    bound_values_are_of_their_columns_types();
+}
+
+/// What a transaction's net is over its base when it begins it stays behind each statement that writes or locks: laid over
+/// the base it gives rows of the schema, each row that it has fits the schema, and what it touches is in the base.
+pub fn own_nets_stay_own_nets()
+    ensures begin { (tables : Tables) (base : Table) → AreRowsOf tables base → IsOwnNet tables base [] }
+    ensures insert { (tables : Tables) (insert : BoundInsert) (base : Table) (own : List ChangeOfRow) (effect : Effect) →
+        IsSchema tables → IsSoundInsert tables insert → IsOwnNet tables base own →
+        IsDone own (insert_changes tables insert base own) effect → IsOwnNet tables base effect.own }
+    ensures update { (tables : Tables) (update : BoundUpdate) (base : Table) (own : List ChangeOfRow) (effect : Effect) →
+        IsSoundUpdate tables update → IsOwnNet tables base own →
+        IsDone own (update_changes tables update base own) effect → IsOwnNet tables base effect.own }
+    ensures delete { (tables : Tables) (delete : BoundDelete) (base : Table) (own : List ChangeOfRow) (effect : Effect) →
+        IsOwnNet tables base own → IsDone own (delete_changes delete base own) effect → IsOwnNet tables base effect.own }
+    ensures lock { (tables : Tables) (query : BoundSelect) (base : Table) (own : List ChangeOfRow) (locked : Locked) →
+        IsOwnNet tables base own → IsLocked own (lock_changes query base own) locked → IsOwnNet tables base locked.own }
+{
+    bound_values_are_of_their_columns_types();
+}

@@ -1,20 +1,24 @@
 //! The lines of an answer.
-ghost use Rattle.std.specs.Prelude.{◌≡◌, ◌≤◌, length, map, IfOk};
+ghost use Rattle.std.specs.Prelude.{◌≡◌, ◌≤◌, true, length, map, IfOk};
+ghost use Rattle.std.specs.List.{All};
 ghost use Rattle.geo_base.specs.Results.{Gives, Matches};
 ghost use Rattle.geo_base.specs.declared.limits.TheConstants.{MAX_LINE_CELLS};
 ghost use Rattle.group_exec.specs.Results as results;
 ghost use Rattle.row_source.specs.Matches as matched;
 ghost use Rattle.row_source.specs.declared.fault.ExecFault.TheVariants as fault;
+ghost use Rattle.sql_bind.specs.Sound.{is_plain};
 ghost use Rattle.sql_bind.specs.Steps.{each};
 ghost use Rattle.sql_exec.specs.inner.Plain as plain;
 
-use crate::for_update::LineList;
 use geo_base::{Cell, Line, Many, RowImage};
 use group_exec::limits::MAX_LINES;
 use row_source::{ExecFault, value};
 use sql_bind::Item;
 use sql_expr::Expr;
 use std::alloc::Global;
+
+/// Lines of an answer.
+pub type LineList = Many<Line>;
 
 /// The value of an expression over a row of one table.
 #[tactic(auto, using(crate::proofs::Alone::no_right))]
@@ -24,18 +28,20 @@ pub(crate) fn value_over(alloc: Global, expr: &Expr, row: &[Cell]) -> Result<Cel
     value(alloc, expr, row, &[])
 }
 
-/// An item over a row. A query that isn't grouped has plain items alone.
+/// A plain item over a row. A query that isn't grouped has no other.
 fn plain_cell(alloc: Global, item: &Item, row: &[Cell]) -> Result<Cell, ExecFault>
+    requires { is_plain item.now ≡ true }
     ensures { Gives fault.NoMemory (λ c. c) result (results.plain_cell row.now item.now) }
 {
     match item {
         Item::Plain(expr) => value_over(alloc, expr, row),
-        _ => Ok(Cell::Null),
+        _ => unreachable!(),
     }
 }
 
 /// The cells of the line of a row, from left to right.
 fn cells_over(alloc: Global, items: &[Item], row: &[Cell]) -> Result<Vec<Cell>, ExecFault>
+    requires { All (λ i. is_plain i ≡ true) items.now }
     ensures cells { Gives fault.NoMemory (λ v. v.items) result (each (results.plain_cell row.now) items.now) }
     ensures count { IfOk result (λ v. length v.items ≡ length items.now) }
 {
@@ -51,6 +57,7 @@ fn cells_over(alloc: Global, items: &[Item], row: &[Cell]) -> Result<Vec<Cell>, 
 fn line_over(alloc: Global, items: &[Item], row: &[Cell]) -> Result<Line, ExecFault>
     requires some { 1 ≤ length items.now }
     requires few { length items.now ≤ MAX_LINE_CELLS }
+    requires plain { All (λ i. is_plain i ≡ true) items.now }
     ensures { Gives fault.NoMemory (λ l. l) result (plain.line_over items.now row.now) }
 {
     let cells = cells_over(alloc, items, row)?;
@@ -65,6 +72,7 @@ fn line_over(alloc: Global, items: &[Item], row: &[Cell]) -> Result<Line, ExecFa
 fn lines_over(alloc: Global, items: &[Item], rows: &[&RowImage]) -> Result<Vec<Line>, ExecFault>
     requires some { 1 ≤ length items.now }
     requires few { length items.now ≤ MAX_LINE_CELLS }
+    requires plain { All (λ i. is_plain i ≡ true) items.now }
     ensures { Gives fault.NoMemory (λ v. v.items) result (plain.lines_over items.now (map (λ row. row.now) rows.now)) }
 {
     let mut lines = Vec::with_capacity(alloc, rows.len())?;
@@ -103,6 +111,7 @@ pub(crate) fn limited_lines(
 ) -> Result<LineList, ExecFault>
     requires some { 1 ≤ length items.now }
     requires few { length items.now ≤ MAX_LINE_CELLS }
+    requires plain { All (λ i. is_plain i ≡ true) items.now }
     ensures { Gives fault.NoMemory (λ l. l) result (plain.limited_lines items.now limit (map (λ row. row.now) rows.now)) }
 {
     let mut lines = lines_over(alloc, items, rows)?;

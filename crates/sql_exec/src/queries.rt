@@ -1,20 +1,20 @@
 //! Queries.
-ghost use Rattle.std.specs.Prelude.{◌≡◌, ◌+◌, ◌≤◌, false, [], Ok, length, map};
+ghost use Rattle.std.specs.Prelude.{◌≡◌, ◌+◌, ◌≤◌, false, true, [], Ok, length, map};
+ghost use Rattle.std.specs.List.{All};
 ghost use Rattle.geo_base.specs.Results.{Gives};
 ghost use Rattle.geo_base.specs.declared.limits.TheConstants.{MAX_LINE_CELLS};
 ghost use Rattle.row_source.specs.Bounds.{steps_of};
 ghost use Rattle.row_source.specs.Handing.{IsPlanFor, LeavesOut};
 ghost use Rattle.row_source.specs.Sources.{AreRowsOf};
 ghost use Rattle.row_source.specs.declared.fault.ExecFault.TheVariants as fault;
-ghost use Rattle.sql_bind.specs.Sound.{IsSoundSelect};
+ghost use Rattle.sql_bind.specs.Sound.{IsSoundSelect, is_plain};
 ghost use Rattle.sql_exec.specs.Answers.{answer_of};
 ghost use Rattle.sql_exec.specs.inner.Plain.{plain_answer};
 ghost use Rattle.sql_expr.specs.Conditions.{kept};
 ghost use Rattle.sql_plan.specs.Plans as plans;
 
-use crate::for_update::LineList;
 use crate::keeping::kept_rows;
-use crate::lines::limited_lines;
+use crate::lines::{LineList, limited_lines};
 use crate::reaching::reached_rows;
 use geo_base::RowImage;
 use geo_schema::Schema;
@@ -33,18 +33,15 @@ fn plain_answer(
 ) -> Result<LineList, ExecFault>
     requires some { 1 ≤ length query.now.items }
     requires few { length query.now.items ≤ MAX_LINE_CELLS }
+    requires plain { All (λ i. is_plain i ≡ true) query.now.items }
     ensures { Gives fault.NoMemory (λ l. l) result (plain_answer query.now.items query.now.limit query.now.tests (map (λ row. row.now) rows.now)) }
 {
     let kept = kept_rows(alloc, query.tests.items(), rows)?;
     limited_lines(alloc, query.items.items(), query.limit, kept.as_slice())
 }
 
-/// What a query of one table without groups and order answers by a plan that leaves out only rows that its tests drop:
-/// its lines in the order of keys, or its first fault. The rows that the plan hands out are tested first, one after
-/// another; then all their lines are made; then LIMIT leaves the first ones; and then more than
-/// [`group_exec::limits::MAX_LINES`] of them are [`ExecFault::ResultTooLong`]. The cost is what the source takes to hand
-/// the rows out, and a step for each of them and each test, item and cell of a line; a text is copied only into a line.
-pub fn select_by<R: RowSource, L: Ledger>(
+/// What a query of one table without groups and order answers by a plan that leaves out only rows that its tests drop.
+fn select_by<R: RowSource, L: Ledger>(
     alloc: Global,
     query: &BoundSelect,
     source: &R,
@@ -65,9 +62,14 @@ pub fn select_by<R: RowSource, L: Ledger>(
     plain_answer(alloc, query, rows.as_slice())
 }
 
-/// What a query of one table without groups and order answers: its lines in the order of keys, or its first fault. It is
-/// handed no more rows than the plan that is chosen for it reaches, and LIMIT spares none of them. The cost is that of
-/// the choice, which takes some steps for each test and each column of a key or an index, and then that of [`select_by`].
+/// What a query of one table without groups and order answers: its lines in the order of keys, or its first fault. The rows
+/// that the plan hands out which is chosen for it are tested first, one after another, and LIMIT spares none of them; then
+/// all their lines are made; then LIMIT leaves the first ones; and then more than [`group_exec::limits::MAX_LINES`] of them
+/// are [`ExecFault::ResultTooLong`].
+///
+/// The cost is that of the choice, which takes some steps for each test and each column of a key or an index, what the
+/// source takes to hand the rows out, and a step for each of them and each test, item and cell of a line; a text is copied
+/// only into a line.
 pub fn select<R: RowSource, L: Ledger>(
     alloc: Global,
     query: &BoundSelect,

@@ -25,7 +25,7 @@ fn touch<R: RowSource>(
     ensures touches { OnOk result (touches.new.items ≡ touches.old.items ++ touches_by (R.base source.now) own.now (row ∷ [])) }
     ensures base { OnOk result ((touches.new.items ≡ touches.old.items) ⊎ Rises (R.base source.now)) }
 {
-    if let Some(_) = own.get(&row) {
+    if own.get(&row).is_some() {
         return Ok(());
     }
     let before = source.base_has(&row);

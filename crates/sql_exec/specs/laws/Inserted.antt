@@ -102,18 +102,24 @@ module _ (inserted : (columns : List ColumnDef) (places : List ℕ) (row : ExprR
       pub is : c ≡ change_of base (row_named insert.table (key_cells table cells)) (Put cells)
       pub free : is_taken (overlay base own) done (row_named insert.table (key_cells table cells)) ≡ false
 
+    -- the cells of a row that fit are a row of the table
+    pub cells_fit : (row : ExprRow) (values cells : List Cell) → IsSoundRow table.columns insert.columns row → each (value []) row.values ≡ Ok values →
+        fitting table (inserted_cells table insert.columns values) ≡ Ok cells → IsRow table cells
+    cells_fit row values cells sound valued made =
+        let gave = each_gave (value []) row.values values valued in
+        let fit = fitted table (inserted_cells table insert.columns values) cells (length-map-range_with_len (named_cell insert.columns values) 0 (length table.columns))
+        (cells_typed table.columns insert.columns row sound values gave) made in
+        subst (IsRow table) fit.1 fit.0
+
     one_is : (done : List RowChange) (row : ExprRow) (c : RowChange) → IsSoundRow table.columns insert.columns row → insert_one tables insert base own done row ≡ Ok c → IsOne done c
     one_is done row c sound h =
         let values = bind_ok (each (value []) row.values) (λ vs. fitting table (inserted_cells table insert.columns vs) >>= λ cells. inserted_row base own done (row_named insert.table (key_cells table cells)) cells) c h in
         let cells = bind_ok (fitting table (inserted_cells table insert.columns values.0)) (λ cells. inserted_row base own done (row_named insert.table (key_cells table cells)) cells) c values.2 in
-        let gave = each_gave (value []) row.values values.0 values.1 in
-        let fit = fitted table (inserted_cells table insert.columns values.0) cells.0 (length-map-range_with_len (named_cell insert.columns values.0) 0 (length table.columns))
-        (cells_typed table.columns insert.columns row sound values.0 gave) cells.1 in
         let free = passed (is_taken (overlay base own) done (row_named insert.table (key_cells table cells.0))) (fault.Duplicate (row_named insert.table (key_cells table cells.0)))
         (Ok (change_of base (row_named insert.table (key_cells table cells.0)) (Put cells.0))) c cells.2 in
         record {
           cells = cells.0;
-          row = subst (IsRow table) fit.1 fit.0;
+          row = cells_fit row values.0 cells.0 sound values.1 cells.1;
           is = sym (ok_is (change_of base (row_named insert.table (key_cells table cells.0)) (Put cells.0)) c free.1);
           free = free.0;
         }
@@ -126,7 +132,7 @@ module _ (inserted : (columns : List ColumnDef) (places : List ℕ) (row : ExprR
     any_named row [] = refl
     any_named row (c ∷ done) = ap (λ (b : Bool). row_eq row c.row || b) (any_named row done)
 
-    one_fits : (cells : List Cell) → IsRow table cells → Fits tables (row_named insert.table (key_cells table cells), cells)
+    pub one_fits : (cells : List Cell) → IsRow table cells → Fits tables (row_named insert.table (key_cells table cells), cells)
     one_fits cells row = record { is_table = is_table; row = row; key = refl }
 
     abbrev AreDone : List RowChange → Type 0

@@ -19,6 +19,9 @@ chosen_rows-requires-clause-shown g c =
     of_one (λ table. table < length c.args.schema.now.shown) c.args.query.now.tables (get_or c.items.result.now 0 0)
     (one_table c.args.query.now.tables c.items.result.now c.items.ensures c.requires.query.one) c.requires.query.sound.shown
 
+pub lock_rows-requires-clause-plain : goal.lock_rows-requires-clause-plain
+lock_rows-requires-clause-plain g c = (c.requires.query.sound.not_grouped c.requires.query.not_grouped).1
+
 pub returns-in_err-rows-clause-steps : goal.returns-in_err-rows-clause-steps
 returns-in_err-rows-clause-steps g c =
     same_steps c.args.schema.now c.args.query.now.tables (get_or c.items.result.now 0 0) c.args.query.now.tests (g.R.RowSource.rows c.args.source.now) _ _

@@ -11,6 +11,9 @@ use Rattle.sql_exec.proofs.queries.select_by.Goals as goal
 use Rattle.sql_exec.specs.Answers.{answer_of}
 use Rattle.sql_exec.specs.inner.Plain.{plain_answer}
 
+pub plain_answer-requires-clause-plain : goal.plain_answer-requires-clause-plain
+plain_answer-requires-clause-plain g c = (c.requires.query.not_grouped c.requires.ungrouped).1
+
 pub returns-clause-answer : goal.returns-clause-answer
 returns-clause-answer g c =
     let tables = g.R.RowSource.tables c.args.source.now in
