@@ -1,5 +1,5 @@
 -- No statement of tables is refused for want of memory.
-use Rattle.std.proofs.Common.{◌≡◌, ◌≢◌, ℕ, ◌+◌, Bool, true, false, not, ◌&&◌, ◌||◌, nat_eq, ◌==◌, Option, Some, None, List, [], ◌∷◌, ◌++◌, length, drop, map, Result, Ok, Err, refl, sym, subst}
+use Rattle.std.proofs.Common.{◌≡◌, ◌≢◌, ℕ, ◌+◌, Bool, true, false, ◌&&◌, ◌||◌, ◌==◌, Option, Some, None, List, [], ◌∷◌, ◌++◌, length, drop, map, Result, Ok, Err, sym, subst}
 use Rattle.std.specs.Prelude.{⊤, position, ok_or, is_some, nat_le, IfErr, slice_index_or}
 use Rattle.std.specs.List.{list_any}
 use Rattle.geo_base.specs.declared.limits.TheConstants.{MAX_LINE_CELLS}
@@ -46,9 +46,9 @@ use Rattle.sql_bind.specs.declared.scope.Known.{Known}
 use Rattle.sql_bind.specs.declared.scope.Scope.{Scope}
 use Rattle.sql_bind.specs.Conditions.{conjuncts, condition_of, filter_of}
 use Rattle.sql_bind.specs.Deletes.{delete_of}
-use Rattle.sql_bind.specs.Expressions.{operator, joined, negated, denied, column, expression_of, taken_by, of_any_type}
+use Rattle.sql_bind.specs.Expressions.{operator, joined, negated, denied, expression_of, taken_by, of_any_type}
 use Rattle.sql_bind.specs.Inserts.{listed_column, listed_columns, next_value, row_of, rows_of, insert_of}
-use Rattle.sql_bind.specs.Items.{item_of, star_item, next_star, star_of, listed, items_of}
+use Rattle.sql_bind.specs.Items.{item_of, star_item, next_star, listed, items_of}
 use Rattle.sql_bind.specs.Names.{table_named, known_of, columns_of, known_columns, type_at, place_named, column_named, found_in, only_one, found_of, is_allowed, column_meant, alone, nowhere}
 use Rattle.sql_bind.specs.Orders.{has_alias, written_items, only_item, item_meant, item_or_column, sort_of, order_of}
 use Rattle.sql_bind.specs.Selects.{second_of, different, from_of, on_of, once, group_behind, is_grouped, plain_scope, tests_of, lines_in, lines_of, query_in, select_of, lock_of}

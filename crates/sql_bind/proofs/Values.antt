@@ -1,5 +1,5 @@
 -- The values of bound expressions are of the types that are asked for where they stand.
-use Rattle.std.proofs.Common.{◌≡◌, ℕ, zero, suc, true, Option, Some, List, [], ◌∷◌, Result, Ok, Err, refl, sym, ap, subst}
+use Rattle.std.proofs.Common.{◌≡◌, ℕ, zero, suc, true, Some, List, [], ◌∷◌, Result, Ok, Err, refl, sym, ap, subst}
 use Rattle.std.specs.Prelude.{IfOk, slice_get, slice_index_or}
 use Rattle.geo_base.specs.Cells as cells
 use Rattle.geo_base.specs.Cells.{is_null}

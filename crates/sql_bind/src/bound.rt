@@ -43,7 +43,7 @@ pub enum Item {
 }
 
 /// What a query sorts by.
-#[derive(Clone, Copy, Debug, PartialEq, Eq)]
+#[derive(Clone, Copy)]
 pub enum SortBy {
     /// An item by its number, from 0 on.
     Item(u16),
@@ -52,7 +52,7 @@ pub enum SortBy {
 }
 
 /// One thing that a query sorts by.
-#[derive(Clone, Copy, Debug, PartialEq, Eq)]
+#[derive(Clone, Copy)]
 pub struct Sort {
     pub by: SortBy,
     /// Whether DESC is written, so that the greatest comes first.

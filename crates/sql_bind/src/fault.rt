@@ -7,7 +7,7 @@ use std::alloc::{AllocError, AllocFailed};
 /// Why a statement isn't bound: the first thing that is wrong, in the order of binding. A column's name is as
 /// it is written, with that of its table where that is written and the two together are no longer than a text
 /// may be; those of a statement that was parsed never are.
-#[derive(Debug, Drop)]
+#[derive(Drop)]
 pub enum BindFault {
     /// No table is shown under this name.
     NoTable(Txt),

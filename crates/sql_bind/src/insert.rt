@@ -55,7 +55,6 @@ fn written_columns(
 }
 
 /// All columns, so many of them.
-#[tactic(auto, using(crate::proofs::Places::one_more, crate::proofs::Places::all_below))]
 fn all_columns(alloc: Global, count: u8) -> Result<Vec<u8>, NoMemory>
     ensures places { IfOk result (λ v. v.items ≡ range_with_len 0 count) }
     ensures within { IfOk result (λ v. All (λ place. place < count) v.items) }

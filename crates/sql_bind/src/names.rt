@@ -153,7 +153,7 @@ fn found_of(
 pub(crate) fn contains(places: &[u16], place: u16) -> bool
     ensures { result ≡ is_in places.now place }
 {
-    places.iter().any(|p| *p == place)
+    places.contains(&place)
 }
 
 /// Whether the column may stand there.

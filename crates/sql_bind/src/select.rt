@@ -56,12 +56,19 @@ fn from_of(alloc: Global, schema: &Schema, select: &SelectStmt) -> Result<Scope,
 {
     let left = known_of(alloc, schema, &select.left)?;
     let right = second_of(alloc, schema, &select.right)?;
-    different(alloc, &left, &right)?;
-    Ok(Scope {
+    let told = different(alloc, &left, &right);
+    let scope = Scope {
         left: Some(left),
         right,
         group: None,
-    })
+    };
+    match told {
+        Ok(()) => Ok(scope),
+        Err(fault) => {
+            drop(scope);
+            Err(fault)
+        }
+    }
 }
 
 /// The conjuncts of ON.
