@@ -31,7 +31,7 @@ pub record IsChanging {C P : Type 0} (entries : C → List P) (sound : C → Typ
   pub now : sound (arc_value y)
 
 -- two reads at one place are of one chunk
-same_read : {X : Type 0} (cs : List X) (i : ℕ) (x z : X) → i < length cs → x ≡ get_or cs i x → z ≡ get_or cs i z → x ≡ z
+pub same_read : {X : Type 0} (cs : List X) (i : ℕ) (x z : X) → i < length cs → x ≡ get_or cs i x → z ≡ get_or cs i z → x ≡ z
 same_read cs i x z within r s = get_or_read cs i x within r z ∙ sym s
 
 module _ {C P : Type 0} (entries : C → List P) (sound : C → Type 0) where
@@ -49,6 +49,11 @@ module _ {C P : Type 0} (entries : C → List P) (sound : C → Type 0) where
   pub after_read : (cs : List (Arc C Global)) (i : ℕ) (y w : Arc C Global) (chunk : C) (after : ℕ) → i < length cs → w ≡ get_or (set cs i y) i w → chunk ≡ arc_value w → after ≡ length (entries chunk) → after ≡ length (entries (arc_value y))
   after_read cs i y w chunk after within r e a =
       a ∙ ap (λ v. length (entries v)) (e ∙ ap arc_value (r ∙ get_or-set_at cs i i y w refl within))
+
+-- what is read behind the change is the chunk that was put there
+pub sound_after : {C : Type 0} (sound : C → Type 0) (cs : List (Arc C Global)) (i : ℕ) (y w : Arc C Global) (chunk : C) → i < length cs → w ≡ get_or (set cs i y) i w → chunk ≡ arc_value w → sound (arc_value y) → sound chunk
+sound_after sound cs i y w chunk within r e now =
+    subst sound (sym (e ∙ ap arc_value (r ∙ get_or-set_at cs i i y w refl within))) now
 
 module _ {C P : Type 0} (entries : C → List P) (sound : C → Type 0) (shelf : Shelf C) (i : ℕ) (x y : Arc C Global) (before : ℕ) (h : IsChanging entries sound shelf i x y before) where
   -- the chunk has fewer pairs than there are in all

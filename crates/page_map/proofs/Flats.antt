@@ -1,8 +1,8 @@
 -- Chunks in a row, and the list of all their pairs.
-use Rattle.std.proofs.Common.{◌≡◌, ℕ, suc, ◌+◌, ◌-◌, ◌<◌, ◌≤◌, ⊎_elim, Some, List, [], ◌∷◌, ◌++◌, length, take, drop, set, get_or, refl, ap, sym, ◌∙◌, arith, map, length-append, add-one, append_assoc}
+use Rattle.std.proofs.Common.{◌≡◌, ℕ, suc, ◌+◌, ◌-◌, ◌<◌, ◌≤◌, ⊎_elim, Some, List, [], ◌∷◌, ◌++◌, length, take, drop, set, get_or, refl, ap, sym, ◌∙◌, subst, arith, map, length-append, add-one, append_assoc}
 use Rattle.std.specs.List.{All, flat_map, remove, slice_get}
 use Rattle.page_map.specs.inner.Cuts.{IsWalking}
-use Rattle.std.proofs.lemmas.List.{append-nil, drop_more, set_split, take_more, take-append-drop, take_all, get_or-append-add, get_or_append_left}
+use Rattle.std.proofs.lemmas.List.{append-nil, drop_more, set_split, take_more, take-append-drop, take_all, get_or-append-add, get_or_append_left, get_or_read}
 use Rattle.std.proofs.lemmas.Option.{slice_get-get_or, slice_get_within, get_or_from_slice_get}
 use Rattle.std.proofs.lemmas.Bool.{cases_lt}
 use Rattle.std.proofs.lemmas.List.Concat.{flat_map-append}
@@ -92,6 +92,11 @@ module _ {X P : Type 0} (e : X → List P) (cs : List X) where
     read = read;
     counted = counted;
   }
+
+  -- the place that is left lies in the chunk that is looked at, where that has more pairs
+  pub walking_rest : (place chunk rest count : ℕ) → IsWalking e cs place chunk rest count → rest < count → (d : X) → rest < length (e (get_or cs chunk d))
+  walking_rest place chunk rest count w less d =
+      subst (λ c. rest < length (e c)) (get_or_read cs chunk w.here w.within w.read d) (omega (arith, less, w.counted))
 
 -- the pair at a place within a part
 pub pair_framed : {P : Type 0} (a m b : List P) (n : ℕ) (p : P) → slice_get m n ≡ Some p → slice_get (a ++ (m ++ b)) (length a + n) ≡ Some p

@@ -1,7 +1,7 @@
 -- What a walk over chunks from a place on has found, and what it has still to find.
-use Rattle.std.proofs.Common.{◌≡◌, ℕ, zero, suc, ◌+◌, ◌-◌, ◌<◌, ◌≤◌, List, [], ◌∷◌, ◌++◌, length, take, drop, get_or, refl, ap, sym, ◌∙◌, subst, arith, append_assoc, length-drop}
+use Rattle.std.proofs.Common.{◌≡◌, ℕ, zero, suc, ◌+◌, ◌-◌, ◌<◌, ◌≤◌, List, [], ◌∷◌, ◌++◌, length, map, take, drop, get_or, slice_range, refl, ap, sym, ◌∙◌, subst, arith, append_assoc, length-drop}
 use Rattle.std.specs.List.{All, flat_map}
-use Rattle.std.proofs.lemmas.List.{append-nil, take_all, drop_all, drop_at, drop-drop, drop-append-le}
+use Rattle.std.proofs.lemmas.List.{append-nil, map-append, take_all, take_more, drop_all, drop_at, drop-drop, drop-append-le}
 use Rattle.std.proofs.lemmas.List.Elements.{All-get_or}
 use Rattle.page_map.specs.inner.Cuts.{IsListing}
 use Rattle.page_map.proofs.Flats.{flat_from, two_parts}
@@ -25,6 +25,39 @@ module _ {X : Type 0} where
 
   drop_append : (a b : List X) (n : ℕ) → drop (length a + n) (a ++ b) ≡ drop n b
   drop_append a b n = sym (drop-drop n (length a) (a ++ b)) ∙ ap (drop n) (drop_at a b (length a) refl)
+
+-- one pair more was added, as it is seen
+pub added_more : {X Y : Type 0} (see : Y → X) (pairs : List X) (place : ℕ) (x : X) → place < length pairs → x ≡ get_or pairs place x →
+    (start : List X) (found more : List Y) (y : Y) → map see found ≡ start ++ take place pairs → see y ≡ x → more ≡ found ++ (y ∷ []) →
+    map see more ≡ start ++ take (place + 1) pairs
+added_more see pairs place x within read start found more y so_far seen added =
+    ap (map see) added
+    ∙ (map-append see found (y ∷ [])
+    ∙ (ap (λ l. l ++ (see y ∷ [])) so_far
+    ∙ (append_assoc start (take place pairs) (see y ∷ [])
+    ∙ ap (λ l. start ++ l) (ap (λ z. take place pairs ++ (z ∷ [])) (seen ∙ read) ∙ sym (take_more pairs place x within)))))
+
+-- one copy more was made
+pub copied_more : {X : Type 0} (pairs : List X) (place : ℕ) (x : X) → place < length pairs → x ≡ get_or pairs place x →
+    (copies more : List X) (y : X) → copies ≡ take place pairs → y ≡ x → more ≡ copies ++ (y ∷ []) → more ≡ take (place + 1) pairs
+copied_more pairs place x within read copies more y so_far same added =
+    added
+    ∙ (ap (λ l. l ++ (y ∷ [])) so_far
+    ∙ (ap (λ z. take place pairs ++ (z ∷ [])) (same ∙ read) ∙ sym (take_more pairs place x within)))
+
+-- a range, listed behind nothing
+module _ {X Y : Type 0} (see : Y → X) (pairs : List X) (first last : ℕ) (found : List Y) (none : found ≡ []) where
+  pub range_empty : last ≤ first → map see found ≡ slice_range pairs first last
+  range_empty within =
+      let nothing : last - first ≡ 0 = omega arith in
+      ap (map see) none ∙ sym (ap (λ n. take n (drop first pairs)) nothing)
+
+  pub range_past : length pairs ≤ first → map see found ≡ slice_range pairs first last
+  range_past past =
+      ap (map see) none ∙ sym (ap (take (last - first)) (drop_all first pairs past) ∙ take_all (last - first) [] (omega arith))
+
+  pub range_listed : (more : List Y) → map see more ≡ map see found ++ take (last - first) (drop first pairs) → map see more ≡ slice_range pairs first last
+  range_listed more added = added ∙ ap (λ l. map see l ++ take (last - first) (drop first pairs)) none
 
 module _ {X P : Type 0} (e : X → List P) (cs : List X) where
   pub listing_first : (first rest place count : ℕ) (found : List P) → ((d : X) → rest < length (e (get_or cs first d))) → length (flat_map e (take first cs)) + rest ≡ place → IsListing e cs found (found ++ take count (drop place (flat_map e cs))) first rest count

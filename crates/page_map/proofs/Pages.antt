@@ -1,9 +1,9 @@
 -- What a page's search says of the list of its pairs.
-use Rattle.std.proofs.Common.{◌≡◌, ℕ, ◌+◌, ◌<◌, List, [], ◌∷◌, ◌++◌, length, take, drop, set, get_or, Some, None, ap, sym, ◌∙◌, subst, add-one}
+use Rattle.std.proofs.Common.{◌≡◌, ℕ, ◌+◌, ◌-◌, ◌<◌, ◌≤◌, List, [], ◌∷◌, ◌++◌, length, take, drop, set, get_or, Some, None, ap, sym, ◌∙◌, subst, add-one, length-drop}
 use Rattle.std.specs.List.{insert, remove}
 use Rattle.std.specs.declared.cmp.Ordering.{Ordering}
 use Rattle.std.specs.declared.cmp.Ordering.TheVariants.{Equal}
-use Rattle.std.proofs.lemmas.List.{take-append-drop, set_split}
+use Rattle.std.proofs.lemmas.List.{take-append-drop, set_split, length-take-le}
 use Rattle.page_map.specs.Pairs.{found_at, put_in, without}
 use Rattle.page_map.specs.inner.Cuts.{IsFoundAt, IsGapAt}
 use Rattle.page_map.specs.laws.Lists.{pieces}
@@ -47,3 +47,15 @@ module _ {K V : Type 0} (R : K → K → Ordering) (key : K) (l : List (K × V))
 
   pub page_kept : IsGapAt R key l i → l ≡ without R key l
   page_kept g = whole_gap ∙ sym (ap (without R key) whole_gap ∙ without_framed R key (take i l) [] (drop i l) g.cut)
+
+-- a page that is halved
+module _ {P : Type 0} (pairs : List P) (half : ℕ) (front back first last : List P) (before : front ≡ take half pairs) (behind : back ≡ drop half pairs) (copied_front : first ≡ front) (copied_back : last ≡ back) where
+  pub halves_joined : pairs ≡ first ++ last
+  halves_joined =
+      sym (ap (λ l. l ++ last) (copied_front ∙ before) ∙ (ap (λ l. take half pairs ++ l) (copied_back ∙ behind) ∙ take-append-drop half pairs))
+
+  pub first_length : half ≤ length pairs → length first ≡ half
+  first_length within = ap length (copied_front ∙ before) ∙ length-take-le half pairs within
+
+  pub last_length : length last ≡ length pairs - half
+  last_length = ap length (copied_back ∙ behind) ∙ length-drop half pairs

@@ -32,6 +32,10 @@ module _ {C P : Type 0} (entries : C → List P) (sound : C → Type 0) where
   chunk_read shelf i x s within read =
       subst (IsChunk entries sound) (sym read) (All-get_or (IsChunk entries sound) shelf.chunks.items i x within s.chunks)
 
+  -- the same of what it shares
+  pub chunk_sound : (shelf : Shelf C) (i : ℕ) (x : Arc C Global) (chunk : C) → IsShelf entries sound shelf → i < length shelf.chunks.items → x ≡ get_or shelf.chunks.items i x → chunk ≡ arc_value x → sound chunk
+  chunk_sound shelf i x chunk s within read e = subst sound (sym e) (chunk_read shelf i x s within read).whole
+
   pub whole_from : (new : Shelf C) (pairs : List P) → IsRight entries sound pairs new.chunks.items new.count → IsShelf entries sound new
   whole_from new pairs h = record {
     counted = h.counted ∙ ap length (sym h.same);

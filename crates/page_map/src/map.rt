@@ -6,7 +6,6 @@ ghost use Rattle.page_map.specs.Borders.{IsBorder, border_in};
 ghost use Rattle.page_map.specs.Pairs.{IsRising, found_at, put_in, without, place_in};
 
 use crate::border::{Below, Border};
-use crate::chunk::Chunk;
 use crate::looking::{at_root, between_root, border_root, get_root};
 use crate::page::Page;
 use crate::root::{set_root, take_root};
@@ -65,7 +64,7 @@ impl<K: Ord + Duplicate + Drop, V: Duplicate + Drop> PageMap<K, V> {
         ensures { result ≡ length self.now }
     {
         match &self.root {
-            Some(root) => root.count(),
+            Some(root) => root.count,
             None => 0,
         }
     }

@@ -2,8 +2,8 @@ use Rattle.std.proofs.Common.{sym, ◌∙◌, arith}
 use Rattle.std.proofs.lemmas.Result.{err_from_is_err_and}
 use Rattle.page_map.specs.inner.Chunks.{shared_entries}
 use Rattle.page_map.proofs.Chunks.{chunk_rising, chunk_found}
-use Rattle.page_map.proofs.Shelves.{chunk_small, whole_from}
-use Rattle.page_map.proofs.Changes.{changing, after_read, had_within, kept, put_there}
+use Rattle.page_map.proofs.Shelves.{chunk_read, chunk_sound, chunk_small, whole_from}
+use Rattle.page_map.proofs.Changes.{sound_after, changing, after_read, had_within, kept, put_there}
 use Rattle.page_map.proofs.changing.set_at.Goals as goal
 
 pub set_in-requires-clause-rising : goal.set_in-requires-clause-rising
@@ -46,3 +46,19 @@ returns-clause-new g c =
     let h = changing g.C.Chunk.entries g.C.Chunk.sound c.args.shelf.now c.args.place c.index.result.now c.index_mut.result.now c.set_in.new.shared c.deref.result.now c.count-before.result c.requires.whole c.requires.place.within c.index.ensures c.index_mut.ensures.value c.deref.ensures c.count-before.ensures.pairs c.set_in.ensures.whole in
     let a = after_read g.C.Chunk.entries g.C.Chunk.sound c.args.shelf.now.chunks.items c.args.place c.set_in.new.shared c.index-2.result.now c.deref-2.result.now c.count-after.result c.requires.place.within c.index-2.ensures c.deref-2.ensures c.count-after.ensures.pairs in
     (put_there g.K.Ord.cmp g.C.Chunk.entries g.C.Chunk.sound c.args.key c.args.shelf.now c.args.place c.index_mut.result.now c.set_in.new.shared c.count-before.result h c.requires.place c.count-after.result a c.args.value c.in_ok-old.ensures.new c.requires.small).same
+
+pub count-before-requires : goal.count-before-requires
+count-before-requires g c =
+    chunk_sound g.C.Chunk.entries g.C.Chunk.sound c.args.shelf.now c.args.place c.index.result.now c.deref.result.now c.requires.whole c.requires.place.within c.index.ensures c.deref.ensures
+
+pub count-after-requires : goal.count-after-requires
+count-after-requires g c =
+    sound_after g.C.Chunk.sound c.args.shelf.now.chunks.items c.args.place c.set_in.new.shared c.index-2.result.now c.deref-2.result.now c.requires.place.within c.index-2.ensures c.deref-2.ensures c.set_in.ensures.whole
+
+pub set_in-requires-clause-whole : goal.set_in-requires-clause-whole
+set_in-requires-clause-whole g c =
+    (chunk_read g.C.Chunk.entries g.C.Chunk.sound c.args.shelf.now c.args.place c.index_mut.result.now c.requires.whole c.requires.place.within c.index_mut.ensures.value).whole
+
+pub set_in-requires-clause-some : goal.set_in-requires-clause-some
+set_in-requires-clause-some g c =
+    (chunk_read g.C.Chunk.entries g.C.Chunk.sound c.args.shelf.now c.args.place c.index_mut.result.now c.requires.whole c.requires.place.within c.index_mut.ensures.value).some

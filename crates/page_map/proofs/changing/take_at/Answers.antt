@@ -3,8 +3,8 @@ use Rattle.std.specs.List.{flat_map}
 use Rattle.std.proofs.lemmas.Result.{err_from_is_err_and}
 use Rattle.page_map.specs.inner.Chunks.{shared_entries}
 use Rattle.page_map.proofs.Chunks.{chunk_rising, chunk_found}
-use Rattle.page_map.proofs.Shelves.{right_at, whole_from}
-use Rattle.page_map.proofs.Changes.{changing, after_read, had_within, kept, taken_there, last_taken}
+use Rattle.page_map.proofs.Shelves.{chunk_read, chunk_sound, right_at, whole_from}
+use Rattle.page_map.proofs.Changes.{sound_after, changing, after_read, had_within, kept, taken_there, last_taken}
 use Rattle.page_map.proofs.changing.take_at.Goals as goal
 
 pub take_in-requires-clause-rising : goal.take_in-requires-clause-rising
@@ -63,3 +63,19 @@ returns-clause-new g c =
     let a = after_read g.C.Chunk.entries g.C.Chunk.sound c.args.shelf.now.chunks.items c.args.place c.take_in.new.shared c.index-2.result.now c.deref-2.result.now c.count-after.result c.requires.place.within c.index-2.ensures c.deref-2.ensures c.count-after.ensures.pairs in
     let some : 0 < c.count-after.result = omega arith in
     (taken_there g.K.Ord.cmp g.C.Chunk.entries g.C.Chunk.sound c.args.key.now c.args.shelf.now c.args.place c.index_mut.result.now c.take_in.new.shared c.count-before.result h c.requires.place c.count-after.result a c.in_ok-old.ensures.new some).same
+
+pub count-before-requires : goal.count-before-requires
+count-before-requires g c =
+    chunk_sound g.C.Chunk.entries g.C.Chunk.sound c.args.shelf.now c.args.place c.index.result.now c.deref.result.now c.requires.whole c.requires.place.within c.index.ensures c.deref.ensures
+
+pub count-after-requires : goal.count-after-requires
+count-after-requires g c =
+    sound_after g.C.Chunk.sound c.args.shelf.now.chunks.items c.args.place c.take_in.new.shared c.index-2.result.now c.deref-2.result.now c.requires.place.within c.index-2.ensures c.deref-2.ensures c.take_in.ensures.whole
+
+pub take_in-requires-clause-whole : goal.take_in-requires-clause-whole
+take_in-requires-clause-whole g c =
+    (chunk_read g.C.Chunk.entries g.C.Chunk.sound c.args.shelf.now c.args.place c.index_mut.result.now c.requires.whole c.requires.place.within c.index_mut.ensures.value).whole
+
+pub take_in-requires-clause-some : goal.take_in-requires-clause-some
+take_in-requires-clause-some g c =
+    (chunk_read g.C.Chunk.entries g.C.Chunk.sound c.args.shelf.now c.args.place c.index_mut.result.now c.requires.whole c.requires.place.within c.index_mut.ensures.value).some
