@@ -1,0 +1,143 @@
+//! What a statement is answered, as a text: its lines, what it has changed and the net behind it, its plan, or its fault.
+ghost use Rattle.std.specs.Prelude.{◌≡◌, false, [], length, IsTrue};
+ghost use Rattle.row_source.specs.Sources.{AreRowsOf};
+ghost use Rattle.sql_bind.specs.Sound.{IsSound, IsSoundSelect};
+ghost use Rattle.sql_bind.specs.Statements as statements;
+ghost use Rattle.write_set.specs.Overlay.{overlay};
+
+use crate::counted::Counted;
+use crate::printing::{print_answer, print_plan};
+use geo_base::NoMemory;
+use geo_schema::Schema;
+use row_source::Steps;
+use sql_ast::Statement;
+use sql_bind::{Bound, BoundSelect, bind};
+use sql_exec::{delete, insert, lock, select, update};
+use sql_parse::parse;
+use sql_plan::{plan_lines, plan_of};
+use std::alloc::Global;
+use std::sync::ledger::Ledger;
+use std::test::Fail;
+use write_set::WriteSet;
+
+/// Whether a query has one table, and neither groups nor order.
+fn is_plain(query: &BoundSelect) -> bool
+    ensures one { IsTrue result → length query.now.tables ≡ 1 }
+    ensures ungrouped { IsTrue result → query.now.grouped ≡ false }
+    ensures unordered { IsTrue result → query.now.order ≡ [] }
+{
+    query.tables.items().len() == 1 && !query.grouped && query.order.items().is_empty()
+}
+
+fn print_explained(
+    out: &mut String,
+    alloc: Global,
+    schema: &Schema,
+    query: &BoundSelect,
+) -> Result<(), NoMemory>
+    requires { IsSoundSelect schema.now query.now }
+{
+    let tables = query.tables.items();
+    let plan = plan_of(alloc, schema, tables, query.tests.items())?;
+    let lines = plan_lines(alloc, schema, tables, &plan);
+    drop(plan);
+    print_plan(out, lines?.as_slice())
+}
+
+/// Writes what a bound statement is answered behind the net.
+fn print_bound<L: Ledger>(
+    out: &mut String,
+    alloc: Global,
+    schema: &Schema,
+    source: &Counted,
+    own: &WriteSet,
+    bound: &Bound,
+    steps: &mut Steps<L>,
+) -> Result<(), Fail>
+    requires sound { IsSound schema.now bound.now }
+    requires schema { source.now.list.tables ≡ schema.now }
+    requires rows { AreRowsOf schema.now source.now.list.rows }
+    requires laid { source.now.list.rows ≡ overlay source.now.list.base own.now }
+{
+    let printed = match bound {
+        Bound::Select(query) if is_plain(query) => {
+            print_answer(out, select(alloc, query, source, schema, steps))
+        }
+        Bound::Lock(query) if is_plain(query) => {
+            print_answer(out, lock(alloc, query, source, own, schema, steps))
+        }
+        Bound::Insert(query) => print_answer(out, insert(alloc, query, source, own, schema)),
+        Bound::Update(query) => print_answer(out, update(alloc, query, source, own, schema, steps)),
+        Bound::Delete(query) => print_answer(out, delete(alloc, query, source, own, schema, steps)),
+        Bound::Explain(query) => print_explained(out, alloc, schema, query),
+        _ => return Err("a query of another form".into()),
+    };
+    Ok(printed?)
+}
+
+/// Whether the statement is one that is bound.
+fn is_of_tables(statement: &Statement) -> bool
+    ensures { result ≡ statements.is_of_tables statement.now }
+{
+    match statement {
+        Statement::Begin | Statement::BeginAsOf(_) | Statement::Commit | Statement::Rollback =>
+            false,
+        _ => true,
+    }
+}
+
+/// Writes what the statement is answered behind the net.
+fn print_statement<L: Ledger>(
+    out: &mut String,
+    alloc: Global,
+    schema: &Schema,
+    source: &Counted,
+    own: &WriteSet,
+    statement: &Statement,
+    steps: &mut Steps<L>,
+) -> Result<(), Fail>
+    requires schema { source.now.list.tables ≡ schema.now }
+    requires rows { AreRowsOf schema.now source.now.list.rows }
+    requires laid { source.now.list.rows ≡ overlay source.now.list.base own.now }
+{
+    if !is_of_tables(statement) {
+        return Err("no statement of tables".into());
+    }
+    let bound = bind(alloc, statement, schema);
+    let printed = match &bound {
+        Ok(bound) => print_bound(out, alloc, schema, source, own, bound, steps),
+        Err(_) => Err("a statement that isn't bound".into()),
+    };
+    drop(bound);
+    printed
+}
+
+/// The statement of a text of at most as many bytes as a script's statements have.
+fn statement_of(alloc: Global, text: &str) -> Result<Statement, Fail> {
+    if text.len() > 16_384 {
+        return Err("a statement that is too long".into());
+    }
+    Ok(parse(alloc, text)?)
+}
+
+/// What the statement of a text is answered behind the net of the transaction. It has to be one that writes, a query of one
+/// table without groups and order, or any query that is explained.
+pub fn answer<L: Ledger>(
+    alloc: Global,
+    schema: &Schema,
+    source: &Counted,
+    own: &WriteSet,
+    text: &str,
+    steps: &mut Steps<L>,
+) -> Result<String, Fail>
+    requires schema { source.now.list.tables ≡ schema.now }
+    requires rows { AreRowsOf schema.now source.now.list.rows }
+    requires laid { source.now.list.rows ≡ overlay source.now.list.base own.now }
+{
+    let mut out = String::new(alloc);
+    let statement = statement_of(alloc, text)?;
+    let printed = print_statement(&mut out, alloc, schema, source, own, &statement, steps);
+    drop(statement);
+    printed?;
+    Ok(out)
+}

@@ -1,3 +1,0 @@
-mod Fitting
-mod Overlaid
-mod Rising

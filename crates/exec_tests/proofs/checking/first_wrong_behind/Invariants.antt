@@ -1,5 +1,0 @@
-use Rattle.exec_tests.proofs.checking.first_wrong_behind.Given as goal
-
--- the ledger of the blank that is handed on
-abbrev pub ghosts-first_wrong_on : goal.ghosts-first_wrong_on
-ghosts-first_wrong_on a = record { name = a.blank.name; parts = a.blank.parts }
