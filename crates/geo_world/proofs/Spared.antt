@@ -6,7 +6,7 @@ use Rattle.std.proofs.lemmas.List.Elements.{All-push, All-weaker}
 use Rattle.std.proofs.lemmas.List.Sums.{sum_by-le}
 use Rattle.geo_base.specs.declared.limits.TheConstants.{MAX_AGE, MAX_AHEAD, MAX_CANDIDATES, MAX_BATCH_BYTES, SESSIONS_PER_REGION}
 use Rattle.write_set.specs.declared.candidate.Candidate.{Candidate}
-use Rattle.write_set.specs.Sizes.{candidate_size, batch_size}
+use Rattle.write_set.specs.BatchSizes.{candidate_size, batch_size}
 use Rattle.write_set.specs.Journal.{log_of, last_sealed}
 use Rattle.geo_world.specs.World.{World, Idle, BatchPacket, region_of, sealed_by, open_epoch, session_of, holds}
 use Rattle.geo_world.specs.Step.{Stepped, says, put_candidate, next_ticket, is_full, submit, arrive}

@@ -11,7 +11,7 @@ use Rattle.write_set.specs.declared.change.Change.TheVariants.{Put}
 use Rattle.write_set.specs.Journal.{log_of, epochs_of}
 use Rattle.write_set.specs.Merge.{verdicts, is_committed}
 use Rattle.write_set.specs.Snapshot.{snap_at, snap_rows}
-use Rattle.write_set.specs.Sizes.{batch_size}
+use Rattle.write_set.specs.BatchSizes.{batch_size}
 use Rattle.world_script.specs.declared.event.Statement.{Statement}
 use Rattle.world_script.specs.declared.event.Statement.TheVariants.{Insert, Select}
 use Rattle.world_script.specs.declared.event.Event.{Event}

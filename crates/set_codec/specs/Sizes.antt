@@ -3,7 +3,8 @@ use Rattle.std.specs.Prelude.{◌≡◌, ℕ, List, length, min, All}
 use Rattle.geo_schema.specs.Schemas.{Tables, IsSchema}
 use Rattle.write_set.specs.declared.batch.Batch.{Batch}
 use Rattle.write_set.specs.Sets.{ChangeOfRow}
-use Rattle.write_set.specs.Sizes.{set_size, batch_size}
+use Rattle.write_set.specs.BatchSizes.{batch_size}
+use Rattle.write_set.specs.Sizes.{set_size}
 use Rattle.set_codec.specs.declared.format.Format.{Format}
 use Rattle.set_codec.specs.declared.format.Format.TheVariants as format
 use Rattle.set_codec.specs.Fits.{FitsTable}

@@ -1,7 +1,7 @@
 //! Sizes, counted without bytes.
 ghost use Rattle.std.specs.Prelude.{◌≡◌, min, sum_by};
 ghost use Rattle.set_codec.specs.Sizes.{CountsBytes};
-ghost use Rattle.write_set.specs.Sizes.{candidate_size, batch_size};
+ghost use Rattle.write_set.specs.BatchSizes.{candidate_size, batch_size};
 
 use write_set::{Batch, Candidate};
 

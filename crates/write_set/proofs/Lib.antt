@@ -2,6 +2,7 @@ pub mod Deciding
 pub mod Gathering
 pub mod Judging
 pub mod Keeping
+pub mod Lefts
 pub mod Lists
 pub mod Merging
 pub mod Nets

@@ -45,11 +45,11 @@ none_held None none = refl
 none_held (Some change) none = absurd (false≢true (sym none))
 
 -- a touch of a row that the set has, and of one that it lacks
-touch_kept : (q : Bool) (held : Option Change) → (q ≡ true → is_some held ≡ true) → held ≡ cond q (Some (unwrap_or held Touch)) held
+pub touch_kept : (q : Bool) (held : Option Change) → (q ≡ true → is_some held ≡ true) → held ≡ cond q (Some (unwrap_or held Touch)) held
 touch_kept true held some = held_is held (some refl)
 touch_kept false held some = refl
 
-touch_put : (q : Bool) (held : Option Change) → (q ≡ true → is_some held ≡ false) → cond q (Some Touch) held ≡ cond q (Some (unwrap_or held Touch)) held
+pub touch_put : (q : Bool) (held : Option Change) → (q ≡ true → is_some held ≡ false) → cond q (Some Touch) held ≡ cond q (Some (unwrap_or held Touch)) held
 touch_put true held none = none_held held (none refl)
 touch_put false held none = refl
 
@@ -75,11 +75,11 @@ made_in row before Touch set at h = touched_in row set at
 
 -- ---- all of them
 
-rises_net : (set : List ChangeOfRow) (changes : List RowChange) → Rises set → Rises (net_of set changes)
+pub rises_net : (set : List ChangeOfRow) (changes : List RowChange) → Rises set → Rises (net_of set changes)
 rises_net set [] h = h
 rises_net set (c ∷ cs) h = rises_net (made c.row c.before c.change set) cs (rises_made c.row c.before c.change set h)
 
-rows_net : (set : List ChangeOfRow) (changes : List RowChange) (row : RowId) → Rises set →
+pub rows_net : (set : List ChangeOfRow) (changes : List RowChange) (row : RowId) → Rises set →
     change_in (net_of set changes) row ≡ left_of changes row (change_in set row)
 rows_net set [] row h = refl
 rows_net set (c ∷ cs) row h =
@@ -117,7 +117,7 @@ found_so row [] = refl
 found_so row (p ∷ ps) = ap (cond (is_at (row_cmp row) p.0) (Some p.1)) (found_so row ps)
 
 -- rising changes with the same look-ups are the same
-same_changes : (a b : List ChangeOfRow) → Rises a → Rises b → ((row : RowId) → change_in a row ≡ change_in b row) → a ≡ b
+pub same_changes : (a b : List ChangeOfRow) → Rises a → Rises b → ((row : RowId) → change_in a row ≡ change_in b row) → a ≡ b
 same_changes a b rise_a rise_b same =
     entries.same_entries row_cmp row_cmp_total same_row a b (sorted_entries a rise_a) (sorted_entries b rise_b)
     (λ row. found_so row a ∙ same row ∙ sym (found_so row b))

@@ -1,3 +1,4 @@
+pub mod BatchSizes
 pub mod Bounds
 pub mod Isolation
 pub mod Journal

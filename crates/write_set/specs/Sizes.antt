@@ -1,9 +1,8 @@
--- How many bytes the spellings of changes and of a batch have.
+-- How many bytes the spellings of changes have.
 use Rattle.std.specs.Prelude.{ℕ, ◌+◌, List, length, sum_by}
 use Rattle.geo_base.specs.declared.cell.Cell.{Cell}
 use Rattle.geo_base.specs.declared.cell.Cell.TheVariants as cell
 use Rattle.write_set.specs.declared.change.Change.TheVariants.{Put, Remove, Touch}
-use Rattle.write_set.specs.declared.candidate.Candidate.{Candidate}
 use Rattle.write_set.specs.Sets.{ChangeOfRow}
 
 -- a tag, and the bytes of a number or those of a text behind their count
@@ -23,11 +22,3 @@ change_size (row, Touch) = 2 + sum_by cell_size row.key
 -- the changes, one behind another
 abbrev pub set_size : List ChangeOfRow → ℕ
 set_size set = sum_by change_size set
-
--- the start, the number of rows, and the changes
-abbrev pub candidate_size : Candidate → ℕ
-candidate_size c = 8 + set_size c.set
-
--- the mark, the region, the epoch, the number of candidates, and the candidates
-abbrev pub batch_size : List Candidate → ℕ
-batch_size items = 13 + sum_by candidate_size items

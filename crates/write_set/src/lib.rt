@@ -3,8 +3,8 @@
 //! A write set puts, removes or touches rows: a touch claims a row and leaves it as it is.
 //! The definitions of `specs/` say, of every journal of batches, which candidates commit and what each
 //! epoch's snapshot is: pairwise, over lists. [`Plain`] is the program that merges one epoch a step and
-//! answers just those verdicts and rows. [`WriteSet::with`] answers the net of a transaction's changes, or
-//! the limit that it breaks, exactly. [`Changes`] and [`KeptVersions`] are what a merge and an index ask of
+//! answers just those verdicts and rows. [`WriteSet::apply`] makes a transaction's changes in its net, in place,
+//! or answers the limit that they break, exactly; [`WriteSet::with`] does it on a copy. [`Changes`] and [`KeptVersions`] are what a merge and an index ask of
 //! the versions that a region keeps. A copy of a write set, a candidate or a batch equals it. The
 //! functions of `laws` have the laws of every journal as their contracts.
 #![tactic(auto)]
@@ -20,6 +20,7 @@ mod laws;
 pub mod limits;
 mod net;
 mod plain;
+mod replacing;
 mod row_change;
 mod session_record;
 mod set;
@@ -42,7 +43,7 @@ pub use laws::{
     verdicts_say_who_commits, winner_is_unbeaten,
 };
 pub use plain::Plain;
-pub use row_change::RowChange;
+pub use row_change::{RowChange, RowChangeList};
 pub use session_record::Record;
 pub use set::WriteSet;
 pub use set_fault::SetFault;

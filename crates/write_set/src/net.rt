@@ -1,31 +1,27 @@
 //! What is left of a transaction's changes.
-ghost use Rattle.std.specs.Prelude.{◌≡◌, IfOk, IfErr, OnOk};
+ghost use Rattle.std.specs.Prelude.{◌≡◌, [], IfOk, IfErr, OnErr, OnOk};
+ghost use Rattle.std.specs.Option.{is_some};
 ghost use Rattle.write_set.specs.Net.{IsNet, TouchesKnown, HasTouchesOf, IsWithinLimits, HasNetCause};
-ghost use Rattle.write_set.specs.inner.Nets.{made, net_of};
 ghost use Rattle.write_set.specs.Sets.{Rises};
+ghost use Rattle.write_set.specs.inner.Nets.{left_in, left_with, left_with_all};
 
 use crate::change::Change;
+use crate::replacing::{extent_after, replace_all};
 use crate::row_change::RowChange;
 use crate::set::WriteSet;
 use crate::set_fault::SetFault;
+use crate::table::value_of;
 use geo_base::limits::{MAX_SET_BYTES, MAX_SET_ROWS};
 use geo_base::{Duplicate, NoMemory, RowId};
 use std::alloc::Global;
 use std::collections::BTreeMap;
 
-/// Changes by their rows.
-type ChangesByRow = BTreeMap<RowId, Change>;
+/// What is left of each row that the changes name: a change, or none.
+type LeftByRow = BTreeMap<RowId, Option<Change>>;
 
 impl WriteSet {
-    /// The net of this set and of the changes after it, in their order: a put or a removal takes the place of
-    /// what the set has of the row, a removal of a row that the snapshot lacks leaves nothing of it, and a
-    /// touch of a row that the set has leaves the set as it is. A row that is touched while the set lacks it
-    /// has to be in the snapshot.
-    ///
-    /// [`SetFault::TooManyRows`] exactly where the net has more than 1,024 rows, and else
-    /// [`SetFault::TooLarge`] exactly where its spelled changes have more than 1,048,576 bytes. For n
-    /// changes and a set of m rows the cost is n + m searches by halving, and one pass over the net.
-    #[tactic(auto, using(crate::proofs::Nets::is_net, crate::proofs::Nets::net_touches, crate::proofs::Nets::net_cause))]
+    /// The net of this set and of the changes after it: [`WriteSet::apply`] on a copy of the set, at whose cost it comes.
+    #[tactic(auto, using(crate::proofs::Nets::net_cause))]
     pub fn with(&self, alloc: Global, changes: Vec<RowChange>) -> Result<WriteSet, SetFault>
         requires { TouchesKnown self.now changes.items }
         ensures net { IfOk result (IsNet self.now changes.items) }
@@ -33,68 +29,96 @@ impl WriteSet {
         ensures within { IfOk result IsWithinLimits }
         ensures fault { IfErr result (HasNetCause self.now changes.items) }
     {
-        let net = net_of(alloc, self.changes(), changes)?;
-        if net.len() > MAX_SET_ROWS as usize {
+        let _changes = self.changes();
+        let mut net = self.copy(alloc)?;
+        net.apply(alloc, changes)?;
+        Ok(net)
+    }
+
+    /// Makes the changes in this set, in their order, so that it becomes the net of both: a put or a removal takes the
+    /// place of what the set has of the row, a removal of a row that the snapshot lacks leaves nothing of it, and a
+    /// touch of a row that the set has leaves the set as it is. A row that is touched while the set lacks it has to be in
+    /// the snapshot.
+    ///
+    /// [`SetFault::TooManyRows`] exactly where the net has more than 1,024 rows, and else
+    /// [`SetFault::TooLarge`] exactly where its spelled changes have more than 1,048,576 bytes. After a fault the set is
+    /// as it was. Nothing of the set is copied: for n changes and a set of m rows the cost is some n searches by halving
+    /// in m and n rows, the cells of the changes and of what they replace, and, for a new row that isn't the last, a
+    /// move of the entries behind it, of which there are fewer than 1,024.
+    #[tactic(auto, using(crate::proofs::Lefts::replaced_is_net, crate::proofs::Nets::is_net, crate::proofs::Nets::net_touches, crate::proofs::Nets::net_cause))]
+    pub fn apply(&mut self, alloc: Global, changes: Vec<RowChange>) -> Result<(), SetFault>
+        requires { TouchesKnown self.old changes.items }
+        ensures net { OnOk result (IsNet self.old changes.items self.new) }
+        ensures touches { OnOk result (HasTouchesOf self.old changes.items self.new) }
+        ensures within { OnOk result (IsWithinLimits self.new) }
+        ensures fault { IfErr result (HasNetCause self.old changes.items) }
+        ensures stays { OnErr result (self.new ≡ self.old) }
+    {
+        let left = left_of(alloc, self.changes.as_slice(), changes)?;
+        let extent = extent_after(self.changes.as_slice(), self.size, left.as_slice());
+        if extent.rows > MAX_SET_ROWS as usize {
             return Err(SetFault::TooManyRows);
         }
-        let set = WriteSet::from_changes(net);
-        if set.size() > MAX_SET_BYTES {
+        if extent.bytes > u128::from(MAX_SET_BYTES) {
             return Err(SetFault::TooLarge);
         }
-        Ok(set)
+        self.changes.reserve(left.len())?;
+        replace_all(&mut self.changes, left);
+        self.size = extent.bytes as u64;
+        Ok(())
     }
 }
 
-/// The net of a set's changes and of those after them.
-fn net_of(
+/// What the changes leave of the rows that they name, in rising order of rows.
+fn left_of(
     alloc: Global,
     set: &[(RowId, Change)],
     changes: Vec<RowChange>,
-) -> Result<Vec<(RowId, Change)>, NoMemory>
+) -> Result<Vec<(RowId, Option<Change>)>, NoMemory>
     requires { Rises set.now }
-    ensures net { IfOk result (λ net. net.items ≡ net_of set.now changes.items) }
-    ensures rising { IfOk result (λ net. Rises net.items) }
+    ensures left { IfOk result (λ left. left.items ≡ left_with_all set.now [] changes.items) }
+    ensures rising { IfOk result (λ left. Rises left.items) }
 {
-    let mut net = by_row(alloc, set)?;
+    let mut left = BTreeMap::new(alloc);
     for change in changes {
-        make_change(&mut net, change)?;
+        note(set, &mut left, change)?;
     }
-    in_order(alloc, net)
+    in_order(alloc, left)
 }
 
-/// Copies of the changes, by their rows.
-fn by_row(alloc: Global, changes: &[(RowId, Change)]) -> Result<ChangesByRow, NoMemory>
-    requires { Rises changes.now }
-    ensures { IfOk result (λ copies. copies.entries ≡ changes.now) }
-{
-    let mut copies = BTreeMap::new(alloc);
-    for (row, change) in changes {
-        copies.insert(row.copy(alloc)?, change.copy(alloc)?)?;
-    }
-    Ok(copies)
-}
-
-/// Leaves in the net what this change of its row does.
-fn make_change(net: &mut ChangesByRow, change: RowChange) -> Result<(), NoMemory>
-    ensures { OnOk result (net.new.entries ≡ made change.row change.before change.change net.old.entries) }
+/// Notes what this change leaves of its row.
+fn note(set: &[(RowId, Change)], left: &mut LeftByRow, change: RowChange) -> Result<(), NoMemory>
+    requires { Rises set.now }
+    ensures { OnOk result (left.new.entries ≡ left_with set.now change.row change.before change.change left.old.entries) }
 {
     match change.change {
         Change::Remove if !change.before => {
-            net.remove(&change.row);
+            left.insert(change.row, None)?;
         }
-        Change::Touch if net.contains_key(&change.row) => {}
+        Change::Touch if is_left(set, left, &change.row) => {}
         made => {
-            net.insert(change.row, made)?;
+            left.insert(change.row, Some(made))?;
         }
     }
     Ok(())
 }
 
-/// The changes in rising order of their rows.
-fn in_order(alloc: Global, net: ChangesByRow) -> Result<Vec<(RowId, Change)>, NoMemory>
-    ensures changes { IfOk result (λ changes. changes.items ≡ net.entries) }
-    ensures rising { IfOk result (λ changes. Rises changes.items) }
+/// Whether anything is left of the row.
+fn is_left(set: &[(RowId, Change)], left: &LeftByRow, row: &RowId) -> bool
+    requires { Rises set.now }
+    ensures { result ≡ is_some (left_in set.now left.now.entries row.now) }
 {
-    let changes = net.into_iter().collect(alloc)?;
-    Ok(changes)
+    match left.get(row) {
+        Some(held) => held.is_some(),
+        None => value_of(set, row).is_some(),
+    }
+}
+
+/// What is left, in rising order of rows.
+fn in_order(alloc: Global, left: LeftByRow) -> Result<Vec<(RowId, Option<Change>)>, NoMemory>
+    ensures left { IfOk result (λ v. v.items ≡ left.entries) }
+    ensures rising { IfOk result (λ v. Rises v.items) }
+{
+    let left = left.into_iter().collect(alloc)?;
+    Ok(left)
 }

@@ -8,7 +8,7 @@ ghost use Rattle.write_set.specs.Sets.{IsWriteSet};
 ghost use Rattle.write_set.specs.Sizes.{set_size};
 
 use crate::change::Change;
-use crate::size::changes_size;
+use crate::size::{change_size, changes_size};
 use crate::table::value_of;
 use geo_base::{Duplicate, NoMemory, RowId};
 use std::alloc::Global;
@@ -18,20 +18,25 @@ use std::marker::Model;
 /// list of the rows with what is done to each.
 #[derive(Debug, Drop)]
 pub struct WriteSet {
-    changes: Vec<(RowId, Change)>,
+    pub(crate) changes: Vec<(RowId, Change)>,
+    /// The bytes of their spellings.
+    pub(crate) size: u64,
 }
 
 impl Model for WriteSet {
-    ghost use Rattle.std.specs.Prelude.{List};
+    ghost use Rattle.std.specs.Prelude.{List, ◌≡◌, ◌≤◌, ◌*◌};
+    ghost use Rattle.geo_base.specs.declared.limits.TheConstants.{MAX_SET_ROWS};
     ghost use Rattle.geo_base.specs.declared.row_id.RowId.{RowId};
     ghost use Rattle.write_set.specs.declared.change.Change.{Change};
+    ghost use Rattle.write_set.specs.declared.limits.TheConstants.{MAX_CHANGE_BYTES};
     ghost use Rattle.write_set.specs.Sets.{IsWriteSet};
+    ghost use Rattle.write_set.specs.Sizes.{set_size};
 
     ghost Value = { List (RowId × Change) };
 
     ghost view = { λ s. s.changes.items };
 
-    ghost invariant = { λ s. IsWriteSet s.changes.items };
+    ghost invariant = { λ s. IsWriteSet s.changes.items × (s.size ≡ set_size s.changes.items) × (s.size ≤ MAX_CHANGE_BYTES * MAX_SET_ROWS) };
 }
 
 impl WriteSet {
@@ -42,6 +47,7 @@ impl WriteSet {
     {
         WriteSet {
             changes: Vec::new(alloc),
+            size: 0,
         }
     }
 
@@ -50,17 +56,19 @@ impl WriteSet {
     pub fn one(alloc: Global, row: RowId, change: Change) -> Result<WriteSet, NoMemory>
         ensures { IfOk result (λ set. set ≡ (row, change) ∷ []) }
     {
+        let size = change_size(&row, &change);
         let mut changes = Vec::new(alloc);
         changes.push((row, change))?;
-        Ok(WriteSet { changes })
+        Ok(WriteSet { changes, size })
     }
 
-    /// The set of these changes, which are in rising order of rows.
+    /// The set of these changes, which are in rising order of rows. The cost is the number of their cells.
     pub fn from_changes(changes: Vec<(RowId, Change)>) -> WriteSet
         requires { IsWriteSet changes.items }
         ensures { result ≡ changes.items }
     {
-        WriteSet { changes }
+        let size = changes_size(changes.as_slice());
+        WriteSet { changes, size }
     }
 
     /// The rows with their changes, in rising order of rows.
@@ -97,12 +105,12 @@ impl WriteSet {
         self.changes.len() as u32
     }
 
-    /// The bytes of the spellings of the changes, at most 33,654,784. The cost is the number of cells.
+    /// The bytes of the spellings of the changes, at most 33,654,784.
     pub fn size(&self) -> u64
         ensures value { result ≡ set_size self.now }
         ensures few { result ≤ MAX_CHANGE_BYTES * MAX_SET_ROWS }
     {
-        changes_size(self.changes.as_slice())
+        self.size
     }
 }
 
@@ -124,6 +132,9 @@ impl Duplicate for WriteSet {
     fn copy(&self, alloc: Global) -> Result<WriteSet, NoMemory> {
         let mut changes = Vec::with_capacity(alloc, self.changes.len())?;
         copy_changes(&mut changes, alloc, self.changes.as_slice())?;
-        Ok(WriteSet { changes })
+        Ok(WriteSet {
+            changes,
+            size: self.size,
+        })
     }
 }

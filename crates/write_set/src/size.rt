@@ -31,7 +31,7 @@ fn cells_size(cells: &[Cell]) -> u64
 }
 
 /// The bytes of the spelling of a change of the row.
-fn change_size(row: &RowId, change: &Change) -> u64
+pub(crate) fn change_size(row: &RowId, change: &Change) -> u64
     ensures size { result ≡ change_size (row.now, change.now) }
     ensures few { result ≤ MAX_CHANGE_BYTES }
 {

@@ -3,7 +3,7 @@ use Rattle.std.specs.Prelude.{◌≡◌, ◌≢◌, ℕ, ◌+◌, ◌<◌, ◌�
 use Rattle.geo_base.specs.declared.limits.TheConstants.{MAX_REGIONS, MAX_AGE, MAX_AHEAD, SESSIONS_PER_REGION}
 use Rattle.write_set.specs.declared.candidate.Candidate.{Candidate}
 use Rattle.write_set.specs.Sets.{IsWriteSet}
-use Rattle.write_set.specs.Sizes.{candidate_size}
+use Rattle.write_set.specs.BatchSizes.{candidate_size}
 use Rattle.write_set.specs.Journal.{IsJournal, log_of, last_sealed}
 use Rattle.geo_world.specs.World.{World, Session, Idle, Pending, Packet, BatchPacket, region_of, sealed_by, open_epoch, session_of, has_arrived}
 use Rattle.geo_world.specs.Step.{numbers_below}

@@ -19,7 +19,8 @@ use Rattle.write_set.specs.declared.batch.Batch.{Batch}
 use Rattle.write_set.specs.declared.candidate.Candidate.{Candidate}
 use Rattle.write_set.specs.declared.change.Change.TheVariants.{Put, Remove, Touch}
 use Rattle.write_set.specs.Sets.{ChangeOfRow}
-use Rattle.write_set.specs.Sizes.{cell_size, change_size, candidate_size, batch_size}
+use Rattle.write_set.specs.BatchSizes.{candidate_size, batch_size}
+use Rattle.write_set.specs.Sizes.{cell_size, change_size}
 use Rattle.set_codec.specs.declared.format.Format.{Format}
 use Rattle.set_codec.specs.declared.format.Format.TheVariants as format
 use Rattle.set_codec.specs.Fits.{FitsTable}

@@ -18,10 +18,11 @@ turned a b o e = row_cmp_total.antisymm b a ∙ ap ordering_reverse e
 
 module _ {X : Type 0} where
   -- the row is less than those of all the entries
-  abbrev IsBelow : RowId → List (RowId × X) → Type 0
+  abbrev pub IsBelow : RowId → List (RowId × X) → Type 0
   IsBelow row entries = AllByRecursion (λ y. row_cmp row y ≡ Less) (keys_of entries)
 
-  below_all : (a b : RowId) (l : List (RowId × X)) → row_cmp a b ≡ Less → IsBelow b l → IsBelow a l
+  -- a row is less than all of which a greater one is less
+  pub below_all : (a b : RowId) (l : List (RowId × X)) → row_cmp a b ≡ Less → IsBelow b l → IsBelow a l
   below_all a b [] h all = tt
   below_all a b (x ∷ l) h all = (row_cmp_total.trans a b x.0 h all.0, below_all a b l h all.1)
 

@@ -1,5 +1,5 @@
 use Rattle.std.proofs.Common.{◌≡◌, ◌≤◌, ◌+◌, min, drop, sum_by}
-use Rattle.write_set.specs.Sizes.{candidate_size}
+use Rattle.write_set.specs.BatchSizes.{candidate_size}
 use Rattle.set_codec.proofs.size.candidates_size.Given as goal
 
 abbrev pub invariant-loop-item : goal.invariant-loop-item
