@@ -101,6 +101,23 @@ removed (x ∷ held) epoch region rising = by (is_at epoch region x) refl (remov
         ∙ ap (λ (l : List ((ℕ × ℕ) × Batch)). (place_of x, x) ∷ l) later
         ∙ ap entries_of (sym (filter_yes (λ (b : Batch). not (is_at epoch region b)) x held (ap not apart)))
 
+-- what a map holds after a removal
+pub kept_less : (regions : ℕ) (entries now : List ((ℕ × ℕ) × Batch)) (epoch region : ℕ) → IsKept regions entries → now ≡ remove_entry (tree.is_at (place_cmp (epoch, region))) entries → IsStrictlySortedBy place_cmp (keys_of now) →
+    (values_of now ≡ filter (λ b. not (is_at epoch region b)) (values_of entries)) × IsKept regions now
+kept_less regions entries now epoch region kept gone sorted =
+    let made : now ≡ entries_of (filter (λ b. not (is_at epoch region b)) (values_of entries)) = gone ∙ ap (remove_entry (tree.is_at (place_cmp (epoch, region)))) kept.placed ∙ removed (values_of entries) epoch region kept.lawful.rising in
+    let values : values_of now ≡ filter (λ b. not (is_at epoch region b)) (values_of entries) = ap values_of made ∙ values_are (filter (λ b. not (is_at epoch region b)) (values_of entries)) in
+    let keys : keys_of now ≡ map place_of (values_of now) = ap keys_of made ∙ keys_are (filter (λ b. not (is_at epoch region b)) (values_of entries)) ∙ ap (map place_of) (sym values) in (
+      values,
+      record {
+        placed = made ∙ ap entries_of (sym values);
+        lawful = record {
+          rising = subst (IsStrictlySortedBy place_cmp) keys sorted;
+          below = subst (AllByRecursion (λ b. b.region < regions)) (sym values) (all_kept (λ b. b.region < regions) (λ b. not (is_at epoch region b)) (values_of entries) kept.lawful.below);
+        };
+      },
+    )
+
 -- ---- taking an epoch region by region
 
 -- the batches of the regions below this one are taken, and the others left
@@ -126,19 +143,11 @@ module _ (regions epoch : ℕ) (old : List Batch) (lawful : IsStrictlySortedBy p
   pub taken_more : (entries now : List ((ℕ × ℕ) × Batch)) (region : ℕ) (taken after : List Batch) → HasTaken regions epoch old entries region taken →
       after ≡ taken ++ listed (lookup (tree.is_at (place_cmp (epoch, region))) entries) → now ≡ remove_entry (tree.is_at (place_cmp (epoch, region))) entries → IsStrictlySortedBy place_cmp (keys_of now) → HasTaken regions epoch old now (region + 1) after
   taken_more entries now region taken after h is gone sorted =
-      let made : now ≡ entries_of (filter (λ b. not (is_at epoch region b)) (values_of entries)) = gone ∙ ap (remove_entry (tree.is_at (place_cmp (epoch, region)))) h.kept.placed ∙ removed (values_of entries) epoch region h.kept.lawful.rising in
-      let values : values_of now ≡ filter (λ b. not (is_at epoch region b)) (values_of entries) = ap values_of made ∙ values_are (filter (λ b. not (is_at epoch region b)) (values_of entries)) in
-      let keys : keys_of now ≡ map place_of (values_of now) = ap keys_of made ∙ keys_are (filter (λ b. not (is_at epoch region b)) (values_of entries)) ∙ ap (map place_of) (sym values) in
+      let less : (values_of now ≡ filter (λ b. not (is_at epoch region b)) (values_of entries)) × IsKept regions now = kept_less regions entries now epoch region h.kept gone sorted in
       let there : lookup (tree.is_at (place_cmp (epoch, region))) entries ≡ held_at old epoch region = finds regions entries h.kept epoch region ∙ ap (λ (l : List Batch). held_at l epoch region) h.left ∙ left_there old epoch region in
       record {
-        kept = record {
-          placed = made ∙ ap entries_of (sym values);
-          lawful = record {
-            rising = subst (IsStrictlySortedBy place_cmp) keys sorted;
-            below = subst (AllByRecursion (λ b. b.region < regions)) (sym values) (all_kept (λ b. b.region < regions) (λ b. not (is_at epoch region b)) (values_of entries) h.kept.lawful.below);
-          };
-        };
-        left = values ∙ ap (filter (λ b. not (is_at epoch region b))) h.left ∙ left_more old epoch region;
+        kept = less.1;
+        left = less.0 ∙ ap (filter (λ b. not (is_at epoch region b))) h.left ∙ left_more old epoch region;
         out = is ∙ ap₂ (λ (l : List Batch) (o : Option Batch). l ++ listed o) h.out there ∙ sym (below_more old epoch region lawful);
         few = omega (arith, h.few, ap length is, length-append taken (listed (lookup (tree.is_at (place_cmp (epoch, region))) entries)), one (lookup (tree.is_at (place_cmp (epoch, region))) entries));
       }

@@ -1,5 +1,5 @@
 -- An inbox holds batches, at most one of each epoch and region, in the order of their places.
-use Rattle.std.specs.Prelude.{◌≡◌, ◌↔◌, ℕ, zero, suc, ◌+◌, ◌<◌, ◌==◌, Bool, true, not, ◌&&◌, ◌||◌, List, [], ◌∷◌, length, map, Option, Some, None, is_some, nat_lt, nat_le, if◌then◌else◌}
+use Rattle.std.specs.Prelude.{◌≡◌, ◌↔◌, ℕ, zero, suc, ◌+◌, ◌<◌, ◌==◌, Bool, true, false, not, ◌&&◌, ◌||◌, List, [], ◌∷◌, length, map, Option, Some, None, is_some, nat_lt, nat_le, if◌then◌else◌}
 use Rattle.std.specs.List.{AllByRecursion, filter, slice_get}
 use Rattle.std.specs.List.Sorted.{IsStrictlySortedBy}
 use Rattle.std.specs.Ordering.{nat_cmp, ordering_then, match_ordering}
@@ -47,6 +47,10 @@ held_of held epoch = filter (λ batch. epoch == batch.epoch) held
 abbrev pub others : List Batch → ℕ → List Batch
 others held epoch = filter (λ batch. not (epoch == batch.epoch)) held
 
+-- the batches at the other places
+abbrev pub without_batch : List Batch → ℕ → ℕ → List Batch
+without_batch held epoch region = filter (λ batch. not (is_at epoch region batch)) held
+
 -- the held batches and this one, in its place in the order; one that was held there gives way
 abbrev pub with_batch : List Batch → Batch → List Batch
 with_batch [] batch = batch ∷ []
@@ -92,6 +96,11 @@ FoundBatchesAreOfTheirPlaces = (held : List Batch) (epoch region : ℕ) (batch :
 -- a batch that was put in is held at its place, and at each other place what was held there
 abbrev pub PutBatchesAreHeld : Type 0
 PutBatchesAreHeld = (held : List Batch) (batch : Batch) (epoch region : ℕ) → held_at (with_batch held batch) epoch region ≡ (if is_at epoch region batch then Some batch else held_at held epoch region)
+
+-- a batch that is let go again leaves what was held before it was put in, where that was nothing at its place
+abbrev pub DroppedBatchesAreGone : Type 0
+DroppedBatchesAreGone = (inbox : Holding) (batch : Batch) → IsLawful inbox → is_held inbox.held batch.epoch batch.region ≡ false →
+    without_batch (with_batch inbox.held batch) batch.epoch batch.region ≡ inbox.held
 
 -- of an epoch that was taken nothing is held, and at each place of another epoch what was held there
 abbrev pub TakenEpochsAreGone : Type 0

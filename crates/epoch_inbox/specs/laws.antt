@@ -1,2 +1,3 @@
 -- Laws, with their proofs, for the proofs of this crate and of those above.
 pub mod Held
+pub mod Rising

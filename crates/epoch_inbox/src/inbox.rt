@@ -1,10 +1,10 @@
 //! The inbox and its calls.
 ghost use Rattle.std.specs.Prelude.{◌≡◌, ◌<◌, ◌↔◌, not, [], length, map, IfOk, OnErr, OnOk, IsErr, IsTrue};
 ghost use Rattle.std.specs.Option.{option_copied};
-ghost use Rattle.epoch_inbox.specs.Inbox.{IsLawful, IsWhole, held_at, held_of, is_held, others, with_batch, arrival_of, after_arrival};
+ghost use Rattle.epoch_inbox.specs.Inbox.{IsLawful, IsWhole, held_at, held_of, is_held, others, with_batch, without_batch, arrival_of, after_arrival};
 
 use crate::arrival::Arrival;
-use crate::taking::{BatchMap, drop_batches, lend_epoch, take_epoch};
+use crate::taking::{BatchMap, drop_batches, lend_epoch, let_go, take_epoch};
 use geo_base::limits::MAX_AGE;
 use geo_base::{Epoch, NoMemory, RegionNo};
 use std::alloc::Global;
@@ -163,6 +163,14 @@ impl Inbox {
         let mut taken = Vec::with_capacity(self.alloc, regions as usize)?;
         take_epoch(&mut self.batches, regions, epoch, &mut taken);
         Ok(taken)
+    }
+
+    /// Lets the region's batch of an epoch go, if it is held. Takes no memory. Costs a search by halving.
+    pub fn drop_batch(&mut self, epoch: Epoch, region: RegionNo)
+        ensures { self.new ≡ record { regions = self.old.regions; held = without_batch self.old.held epoch region } }
+    {
+        let regions = self.regions;
+        let_go(&mut self.batches, regions, epoch, region);
     }
 
     /// Lets the batches of an epoch go. Takes no memory. Costs a search by halving for each region.

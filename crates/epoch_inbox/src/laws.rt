@@ -1,6 +1,6 @@
 //! What an inbox holds after a batch came and after an epoch was taken, each the contract of a function that
 //! does nothing.
-ghost use Rattle.epoch_inbox.specs.Inbox.{FoundBatchesAreOfTheirPlaces, PutBatchesAreHeld, TakenEpochsAreGone, WholeEpochsAreInOrder, HeldBatchesAreCounted};
+ghost use Rattle.epoch_inbox.specs.Inbox.{FoundBatchesAreOfTheirPlaces, PutBatchesAreHeld, TakenEpochsAreGone, DroppedBatchesAreGone, WholeEpochsAreInOrder, HeldBatchesAreCounted};
 
 /// The batch that is held of a region and an epoch is the region's, and of that epoch.
 pub fn found_batches_are_of_their_places()
@@ -15,6 +15,11 @@ pub fn put_batches_are_held()
 /// Of an epoch that was taken nothing is held, and of each other epoch what was held before.
 pub fn taken_epochs_are_gone()
     ensures { TakenEpochsAreGone }
+{}
+
+/// A batch that is put in and let go again leaves what was held, where nothing was held at its place.
+pub fn dropped_batches_are_gone()
+    ensures { DroppedBatchesAreGone }
 {}
 
 /// The batches of a whole epoch are one of each region, in the order of the regions.

@@ -17,6 +17,6 @@ mod taking;
 pub use arrival::Arrival;
 pub use inbox::Inbox;
 pub use laws::{
-    found_batches_are_of_their_places, held_batches_are_counted, put_batches_are_held,
-    taken_epochs_are_gone, whole_epochs_are_in_order,
+    dropped_batches_are_gone, found_batches_are_of_their_places, held_batches_are_counted,
+    put_batches_are_held, taken_epochs_are_gone, whole_epochs_are_in_order,
 };

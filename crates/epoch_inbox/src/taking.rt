@@ -4,7 +4,7 @@ ghost use Rattle.std.specs.BTreeMap.{is_at};
 ghost use Rattle.std.specs.List.Sorted.{IsStrictlySortedBy};
 ghost use Rattle.std.specs.Map.{keys_of, values_of, lookup, remove_entry};
 ghost use Rattle.std.specs.Vec.{vec_capacity};
-ghost use Rattle.epoch_inbox.specs.Inbox.{place_cmp, held_of, others};
+ghost use Rattle.epoch_inbox.specs.Inbox.{place_cmp, held_of, others, without_batch};
 ghost use Rattle.epoch_inbox.specs.inner.Entries.{IsKept, listed};
 
 use geo_base::{Epoch, NoMemory, RegionNo};
@@ -69,6 +69,15 @@ fn drop_batch(batches: &mut BatchMap, epoch: Epoch, region: RegionNo)
     ensures sorted { IsStrictlySortedBy place_cmp (keys_of batches.new.entries) }
 {
     drop(batches.remove(&(epoch, region)));
+}
+
+/// The same of a map that is kept, which stays so.
+pub(crate) fn let_go(batches: &mut BatchMap, regions: u8, epoch: Epoch, region: RegionNo)
+    requires kept { IsKept regions batches.old.entries }
+    ensures left { values_of batches.new.entries ≡ without_batch (values_of batches.old.entries) epoch region }
+    ensures kept { IsKept regions batches.new.entries }
+{
+    drop_batch(batches, epoch, region);
 }
 
 /// Lets the batches of an epoch go.

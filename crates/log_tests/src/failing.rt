@@ -20,11 +20,11 @@ fn first_entry(
     Ok(entry(alloc, logs, 0, 1).map(|bytes| bytes.len()))
 }
 
-/// What is answered over a log with a batch of 41 bytes: to an append (the calls' number 0), for the first entry
-/// (1 and 2), and for the whole log (3, and from 4 on each entry); and how many entries there are in the end.
+/// What is answered over a log with a batch of 41 bytes: to an append of one of 32 (the calls' number 0), for the first
+/// entry (1 and 2), and for the whole log (3, and from 4 on each entry); and how many entries there are in the end.
 fn answers(alloc: Global, schema: &Schema, logs: &mut MemKeepers) -> Result<String, test::Fail> {
     let batch = read_batch(alloc, schema, 2, &bytes_of(alloc, NEW)?)?;
-    let appended = append(alloc, logs, schema, &batch);
+    let appended = append(alloc, logs, schema, &batch).map(|bytes| bytes.len());
     let read = first_entry(alloc, logs)?;
     let loaded = load_log(alloc, logs, schema, 2, 0).map(|batches| batches.len());
     let kept = match logs.lists().first() {
@@ -44,13 +44,13 @@ fn is_answered(alloc: Global, schema: &Schema, line: &str) -> Result<bool, test:
 
 /// Which calls fail, and what is answered.
 const ANSWERS: &str = "\
-6 7 => Ok(()) Ok(41) Ok(2) 2
+6 7 => Ok(32) Ok(41) Ok(2) 2
 0 6 => Err(LogFault) Ok(41) Ok(1) 1
 0+ 6 => Err(LogFault) Ok(41) Ok(2) 2
-2 6 => Ok(()) Err(LogFault) Ok(2) 2
-3 6 => Ok(()) Ok(41) Err(LogFault) 2
-4 6 => Ok(()) Ok(41) Err(LogFault) 2
-6 5 => Ok(()) Ok(41) Err(LogFault) 2
+2 6 => Ok(32) Err(LogFault) Ok(2) 2
+3 6 => Ok(32) Ok(41) Err(LogFault) 2
+4 6 => Ok(32) Ok(41) Err(LogFault) 2
+6 5 => Ok(32) Ok(41) Err(LogFault) 2
 0 5 => Err(LogFault) Ok(41) Ok(1) 1
 0+ 5+ => Err(LogFault) Ok(41) Err(LogFault) 2";
 

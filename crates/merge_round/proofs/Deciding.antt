@@ -27,7 +27,8 @@ use Rattle.merge_round.specs.declared.verdict.Verdict.TheVariants.{Committed, Ch
 use Rattle.merge_round.specs.Rounds.{Round, rows_in, number_in, claims_of, plan_by, plan_of, final_word, numbered, verdict_on, AreClaims}
 use Rattle.merge_round.specs.inner.Entries.{entry_of, first_above, last_at, claim_in, claims_made, IsEntry}
 use Rattle.merge_round.proofs.Numbers.{number_named, row_known}
-use Rattle.merge_round.proofs.Finals.{beaten_word, winner_word, no_winner_word, found_passes}
+use Rattle.merge_round.proofs.Finals.{beaten_word, winner_word, no_winner_word}
+use Rattle.merge_round.specs.laws.Judging.{find_same, found_passes}
 
 -- ---- a candidate by its number
 
@@ -78,10 +79,6 @@ module _ (rows : List RowId) (value : ℕ → ℕ) (f : RowId → ℕ) (low : �
           ≡ option_map (pair_of rows f) (cond b (Some p) (find (λ p. nat_lt low (f p.0)) ps))
       by true rest = refl
       by false rest = rest
-
-pub find_same : (f g : ChangeOfRow → Bool) (set : List ChangeOfRow) → ((p : ChangeOfRow) → Contains set p → f p ≡ g p) → find f set ≡ find g set
-find_same f g [] same = refl
-find_same f g (p ∷ ps) same = rw (same p (among_first p ps), find_same f g ps (λ q h. same q (among_later p q ps h))) refl
 
 -- what is found is above
 pub above_low : (value : ℕ → ℕ) (low : ℕ) (ns : List ℕ) (found : ℕ × ℕ) → first_above value low ns ≡ Some found → low < found.1

@@ -1,6 +1,5 @@
 -- The greatest word of a row decides as comparing each candidate with each other does.
 use Rattle.std.proofs.Common.{◌≡◌, ℕ, zero, suc, ◌<◌, ◌≤◌, max, nat_lt, Bool, true, false, cond, not, ◌||◌, ◌&&◌, None, Some, List, [], ◌∷◌, map, Contains, refl, sym, ap, ◌∙◌, subst, arith, eq-eqb, ne_eqb}
-use Rattle.std.specs.Prelude.{find}
 use Rattle.std.specs.Map.{keys_of}
 use Rattle.std.proofs.lemmas.Bool.{false≢true}
 use Rattle.std.proofs.lemmas.Bool.Decides.{nat_tests}
@@ -21,6 +20,7 @@ use Rattle.claim_rule.specs.Plan.{top, word_on, best}
 use Rattle.claim_rule.specs.laws.Tops.{top_at, top_reached, contains_at}
 use Rattle.merge_round.specs.Rounds.{rows_in, number_in, claims_of, final_word, AreClaims, FinalWordsDecide}
 use Rattle.merge_round.proofs.Numbers.{number_same, row_known}
+use Rattle.merge_round.specs.laws.Judging.{found_passes}
 
 -- ---- greatest values
 
@@ -44,15 +44,6 @@ not_true false e = refl
 not_false : (b : Bool) → not b ≡ false → b ≡ true
 not_false true e = refl
 not_false false e = sym e
-
--- what a search finds is in the list and passes
-pub found_passes : {X : Type 0} → (test : X → Bool) (xs : List X) (x : X) → find test xs ≡ Some x → Contains xs x × (test x ≡ true)
-found_passes test [] x e = cc
-found_passes test (y ∷ ys) x e = by (test y) refl e (found_passes test ys x)
-  where
-    by : (b : Bool) → test y ≡ b → cond b (Some y) (find test ys) ≡ Some x → (find test ys ≡ Some x → Contains ys x × (test x ≡ true)) → Contains (y ∷ ys) x × (test x ≡ true)
-    by true is e rest = let same : y ≡ x = cc in (subst (Contains (y ∷ ys)) same (among_first y ys), ap test (sym same) ∙ is)
-    by false is e rest = let later = rest e in (among_later y x ys later.0, later.1)
 
 -- ---- the words of one row
 

@@ -9,3 +9,5 @@ mod Whole
 mod Outcomes
 mod Journals
 mod Naming
+mod JoinedSeats
+mod JudgedSeats

@@ -18,7 +18,7 @@ use Rattle.merge_round.specs.Rounds.{Round, rows_in, number_in, numbered, outcom
 use Rattle.merge_round.specs.inner.Entries.{IsNamed}
 use Rattle.merge_round.specs.inner.Gathering.{all_verdicts, HasVerdict}
 use Rattle.merge_round.proofs.Numbers.{number_named, row_known, key_among}
-use Rattle.merge_round.proofs.Finals.{found_passes}
+use Rattle.merge_round.specs.laws.Judging.{found_passes}
 
 pub one_more : (verdicts : List (Option Verdict)) (number : ℕ) (v : Verdict) → ((lower : ℕ) → lower < number → HasVerdict verdicts lower) →
     slice_index_or verdicts number None ≡ Some v → (lower : ℕ) → lower < number + 1 → HasVerdict verdicts lower

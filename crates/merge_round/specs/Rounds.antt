@@ -89,6 +89,12 @@ pub record Serves (start changed held : ℕ) : Type 0 where
   pub above : start < changed → held ≡ changed
   pub below : changed ≤ start → held ≤ start
 
+-- held epochs that serve each candidate for each of its rows judge as the last changes do
+abbrev pub ServingChangesJudgeAlike : Type 0
+ServingChangesJudgeAlike = (all : List Placed) (changed held : RowId → ℕ) →
+    ((c : Placed) (row : RowId) → Contains all c → has_row row c.set ≡ true → Serves c.start (changed row) (held row)) →
+    (epoch : ℕ) (c : Placed) → Contains all c → verdict_of held epoch all c ≡ verdict_of changed epoch all c
+
 -- the round is of the epoch that the journal's batches at this place are of, and what it holds for the rows of its candidates serves
 pub record IsRoundOf (journal : Journal) (place : ℕ) (round : Round) : Type 0 where
   pub epoch : round.epoch ≡ place + 1

@@ -10,7 +10,7 @@ ghost use Rattle.write_set.specs.Merge.{last_change, verdicts};
 ghost use Rattle.merge_round.specs.declared.seat.WorkerSeat.{WorkerSeat};
 ghost use Rattle.merge_round.specs.Seats.{work_of};
 ghost use Rattle.merge_round.specs.Gathers.{AreAllSeats};
-ghost use Rattle.merge_round.specs.Rounds.{Round, AreClaims, FinalWordsDecide, IsRoundOf, rows_in, number_in, plan_by, plan_of, outcomes_of};
+ghost use Rattle.merge_round.specs.Rounds.{Round, AreClaims, FinalWordsDecide, IsRoundOf, ServingChangesJudgeAlike, rows_in, number_in, plan_by, plan_of, outcomes_of};
 
 /// The greatest word of a row decides as comparing each candidate with each other does: over candidates whose
 /// claims words can hold, as over those of an epoch's batches.
@@ -27,6 +27,12 @@ pub fn rounds_judge_as_journals()
         plan_of round ≡ plan_by (last_change (epochs_of journal place)) (candidates_of (batches_at journal place)) }
     ensures verdicts { (journal : Journal) (place : ℕ) (round : Round) → IsRoundOf journal place round →
         outcomes_of round ≡ verdicts (epochs_of journal (place + 1)) }
+{}
+
+/// What is held for the last changes of rows judges candidates as the last changes do, where it serves each of them
+/// for each of its rows.
+pub fn serving_changes_judge_alike()
+    ensures { ServingChangesJudgeAlike }
 {}
 
 /// Rows and their numbers name one another: a row of a candidate stands at its number, each row has the number

@@ -36,6 +36,7 @@ pub use judged::Judged;
 pub use judging::Judgement;
 pub use laws::{
     equal_shares_serve, final_words_decide, numbers_name_rows, rounds_judge_as_journals,
+    serving_changes_judge_alike,
 };
 pub use round::MergeRound;
 pub use seat::WorkerSeat;

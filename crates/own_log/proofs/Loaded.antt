@@ -92,13 +92,6 @@ module _ (tables : Tables) (regions region : ℕ) where
     pub of_log : AreOfLogFrom tables regions region 0 batches
     pub so_far : length batches ≡ place
 
-  pub loaded_none : (told : Option Lists) (count : ℕ) → IfSome told (λ all. count ≡ length (list_of all region)) → HasLoaded told count 0 []
-  loaded_none told count h = record { spelled = by told h; of_log = tt; so_far = refl }
-    where
-      by : (o : Option Lists) → IfSome o (λ all. count ≡ length (list_of all region)) → IfSome o (λ all. (count ≡ length (list_of all region)) × SpellsFrom tables regions region 0 (take 0 (list_of all region)) [])
-      by None h = tt
-      by (Some all) h = (h, tt)
-
   pub loaded_within : (told : Option Lists) (count place : ℕ) (batches : List Batch) → HasLoaded told count place batches → place < count → IfSome told (λ all. place < length (list_of all region))
   loaded_within None count place batches h lt = tt
   loaded_within (Some all) count place batches h lt = let same : count ≡ length (list_of all region) = h.spelled.0 in omega arith

@@ -15,7 +15,8 @@ use set_codec::batch_bytes;
 use std::alloc::Global;
 use write_set::Batch;
 
-/// Puts a batch at the end of its region's log: the list gains its GGB2 spelling, from which it is read back.
+/// Puts a batch at the end of its region's log: the list gains its GGB2 spelling, from which it is read back, and which
+/// is answered, so that it need be spelled only once.
 ///
 /// [`LogAppendFault::LogFault`] comes only where the keepers' count of faults rose, and the list may then have
 /// gained the entry; with [`LogAppendFault::NoMemory`] it is as it was. Unless there was no memory the keepers are
@@ -27,9 +28,10 @@ pub fn append<L: Keepers>(
     logs: &mut L,
     schema: &Schema,
     batch: &Batch,
-) -> Result<(), LogAppendFault>
+) -> Result<Vec<u8>, LogAppendFault>
     requires fits { FitsSchema schema.now batch.now }
     requires width { batch.now.region < L.width logs.old }
+    ensures bytes { IfOk result (λ bytes. bytes.items ≡ batch_spelling Ggb2 schema.now batch.now) }
     ensures ok { OnOk result (Moves (Gains batch.now.region (batch_spelling Ggb2 schema.now batch.now)) (L.lists logs.old) (L.lists logs.new)) }
     ensures spelled { OnOk result ((regions : ℕ) → batch.now.region < regions → SpellsBatch schema.now regions (batch_spelling Ggb2 schema.now batch.now) batch.now) }
     ensures failed { IsErrOf result LogAppendFault.LogFault →
@@ -41,7 +43,7 @@ pub fn append<L: Keepers>(
 {
     let bytes = batch_bytes(alloc, schema, batch)?;
     logs.append(batch.region, &bytes)?;
-    Ok(())
+    Ok(bytes)
 }
 
 /// The bytes of the entry that a region's log has for an epoch, which stands at the place before it.

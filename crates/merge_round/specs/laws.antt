@@ -1,0 +1,2 @@
+-- Laws, with their proofs, for the proofs of this crate and of those above.
+pub mod Judging
