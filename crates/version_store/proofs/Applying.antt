@@ -3,6 +3,7 @@ use Rattle.std.proofs.Common.{◌≡◌, ℕ, ◌+◌, ◌<◌, ◌≤◌, Bool,
 use Rattle.std.specs.List.{list_any}
 use Rattle.std.specs.Map.{keys_of}
 use Rattle.std.proofs.lemmas.Bool.Decides.{nat_tests}
+use Rattle.std.proofs.lemmas.List.Folds.{list_any-append}
 use Rattle.std.proofs.lemmas.List.Elements.{All-nil, All-cons, All-weaker}
 use Rattle.geo_base.specs.declared.row_id.RowId.{RowId}
 use Rattle.geo_base.specs.declared.row_image.RowImage.{RowImage}
@@ -21,7 +22,8 @@ use Rattle.version_store.specs.Chains.{Version, Chain, FallsBelow, newest_image,
 use Rattle.version_store.specs.History.{Kept, chain_of, IsKeptChain, IsKept, IsApplied}
 use Rattle.version_store.specs.inner.Writing.{Rows, chain_in, but_of, renewed, written, all_written}
 use Rattle.version_store.specs.inner.Noting.{Note, is_noted, AreNoted, Notes}
-use Rattle.version_store.specs.laws.Keeping.{any_append, any_changes, falls_of, whole_of}
+use Rattle.version_store.specs.laws.Answering.{any_changes}
+use Rattle.version_store.specs.laws.Keeping.{falls_of, whole_of}
 use Rattle.version_store.proofs.Finding.{found_put}
 
 -- ---- one row after one change
@@ -205,12 +207,12 @@ module _ (old : Kept) (lawful : IsKept old) (changes : List ChangeOfRow) where
 
   is_noted_still : (notes : List Note) (epoch : ℕ) (row : RowId) → is_noted notes epoch row ≡ true → is_noted (notes ++ (note ∷ [])) epoch row ≡ true
   is_noted_still notes epoch row is =
-      any_append (λ n. nat_eq n.epoch epoch && list_any (row_eq row) n.rows) notes (note ∷ [])
+      list_any-append (λ n. nat_eq n.epoch epoch && list_any (row_eq row) n.rows) notes (note ∷ [])
       ∙ left_or (is_noted notes epoch row) (is_noted (note ∷ []) epoch row) is
 
   is_noted_now : (notes : List Note) (row : RowId) → changes_row row changes ≡ true → is_noted (notes ++ (note ∷ [])) (old.applied + 1) row ≡ true
   is_noted_now notes row is =
-      any_append (λ n. nat_eq n.epoch (old.applied + 1) && list_any (row_eq row) n.rows) notes (note ∷ [])
+      list_any-append (λ n. nat_eq n.epoch (old.applied + 1) && list_any (row_eq row) n.rows) notes (note ∷ [])
       ∙ right_or (is_noted notes (old.applied + 1) row) (is_noted (note ∷ []) (old.applied + 1) row)
       (ap (λ b. (b && list_any (row_eq row) (rows_altered changes)) || false) (same_number (old.applied + 1))
       ∙ ap (λ b. b || false) (any_altered changes row ∙ is))

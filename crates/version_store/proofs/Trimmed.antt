@@ -4,27 +4,47 @@ use Rattle.std.specs.List.{list_any}
 use Rattle.std.specs.Option.{is_some}
 use Rattle.std.proofs.lemmas.Bool.Decides.{nat_tests}
 use Rattle.std.proofs.lemmas.List.{drop_more}
+use Rattle.std.proofs.lemmas.List.Folds.{list_any-append}
 use Rattle.std.proofs.lemmas.List.Elements.{All-nil, All-cons, All-head, All-tail, All-weaker}
 use Rattle.geo_base.specs.declared.row_id.RowId.{RowId}
 use Rattle.geo_base.specs.Order.{row_cmp, row_eq}
 use Rattle.geo_base.specs.laws.Orders.{row_cmp_total}
 use Rattle.write_set.specs.laws.Rivals.{row_same}
-use Rattle.page_map.specs.Pairs.{IsRising, found_at}
+use Rattle.page_map.specs.Pairs.{IsRising, found_at, put_in}
 use Rattle.page_map.specs.laws.Orders.{rising_put, rising_without}
 use Rattle.version_store.specs.Chains.{Version, Chain, FallsBelow, standing, kept_at}
 use Rattle.version_store.specs.History.{Kept, IsKeptChain, IsKept, IsTrimmed}
 use Rattle.version_store.specs.laws.Trimming.{kept_again}
 use Rattle.version_store.specs.inner.Writing.{Rows, settled, cut_by, cut, all_cut}
 use Rattle.version_store.specs.inner.Noting.{Note, is_noted, rows_upto, AreNoted, Notes}
-use Rattle.version_store.proofs.Finding.{some_of, found_settled}
-use Rattle.version_store.specs.laws.Keeping.{any_append}
+use Rattle.version_store.specs.laws.Sameness.{some_of}
+use Rattle.version_store.proofs.Finding.{found_settled}
 
 -- ---- one row
+
+is_same : (a b : ℕ) → nat_eq a b ≡ true → a ≡ b
+is_same a b h = grind (arith, nat_tests, h)
 
 -- what is found of a row after the horizon was moved to the epoch
 abbrev left_of : ℕ → Option Chain → Option Chain
 left_of horizon None = None
 left_of horizon (Some chain) = some_of (kept_at horizon chain)
+
+-- where as many are left as there were, all are
+all_left : (horizon : ℕ) (chain : Chain) → length (kept_at horizon chain) ≡ length chain → kept_at horizon chain ≡ chain
+all_left horizon [] same = refl
+all_left horizon (version ∷ older) same = by (nat_lt horizon version.epoch) (is_some version.image) same (all_left horizon older)
+  where
+    alone : (rest : Chain) → 1 ≡ length (version ∷ rest) → version ∷ [] ≡ version ∷ rest
+    alone [] one = refl
+    alone (next ∷ rest) one = absurd (omega (arith, one))
+
+    by : (b c : Bool) → length (cond b (version ∷ kept_at horizon older) (cond c (version ∷ []) [])) ≡ length (version ∷ older) →
+        (length (kept_at horizon older) ≡ length older → kept_at horizon older ≡ older) →
+        cond b (version ∷ kept_at horizon older) (cond c (version ∷ []) []) ≡ version ∷ older
+    by true c as_many rest = ap (λ chain. version ∷ chain) (rest (omega (arith, as_many)))
+    by false true as_many rest = alone older as_many
+    by false false as_many rest = absurd (omega (arith, as_many))
 
 found_cut : (horizon : ℕ) (row at : RowId) (rows : Rows) →
     found_at row_cmp at (cut horizon row rows) ≡ cond (row_eq at row) (left_of horizon (found_at row_cmp at rows)) (found_at row_cmp at rows)
@@ -45,7 +65,10 @@ found_cut horizon row at rows = by (found_at row_cmp row rows) refl
     by : (held : Option Chain) → found_at row_cmp row rows ≡ held →
         found_at row_cmp at (cut_by horizon row held rows) ≡ cond (row_eq at row) (left_of horizon (found_at row_cmp at rows)) (found_at row_cmp at rows)
     by None is = nothing (row_eq at row) refl is ∙ inside None is (row_eq at row) refl
-    by (Some chain) is = found_settled row at (kept_at horizon chain) rows ∙ inside (Some chain) is (row_eq at row) refl
+    by (Some chain) is =
+        found_settled (length chain) row at (kept_at horizon chain) rows
+        (λ as_many. is ∙ ap Some (sym (all_left horizon chain (is_same (length (kept_at horizon chain)) (length chain) as_many))))
+        ∙ inside (Some chain) is (row_eq at row) refl
 
 left_again : (horizon : ℕ) (chain : Chain) → kept_at horizon chain ≡ chain → left_of horizon (some_of chain) ≡ some_of chain
 left_again horizon [] same = refl
@@ -86,9 +109,6 @@ is_upto a b h = grind (arith, nat_tests, h)
 isnt_upto : (a b : ℕ) → b < a → nat_le a b ≡ false
 isnt_upto a b h = grind (arith, nat_tests, h)
 
-is_same : (a b : ℕ) → nat_eq a b ≡ true → a ≡ b
-is_same a b h = grind (arith, nat_tests, h)
-
 is_later : (a b : ℕ) → a < b → nat_lt a b ≡ true
 is_later a b h = grind (arith, nat_tests, h)
 
@@ -108,7 +128,7 @@ noted_upto (n ∷ notes) epoch horizon row upto is =
     by (nat_eq n.epoch epoch) (list_any (row_eq row) n.rows) refl refl is (noted_upto notes epoch horizon row upto)
   where
     front : list_any (row_eq row) n.rows ≡ true → list_any (row_eq row) (n.rows ++ rows_upto horizon notes) ≡ true
-    front has = any_append (row_eq row) n.rows (rows_upto horizon notes) ∙ ap (λ b. b || list_any (row_eq row) (rows_upto horizon notes)) has
+    front has = list_any-append (row_eq row) n.rows (rows_upto horizon notes) ∙ ap (λ b. b || list_any (row_eq row) (rows_upto horizon notes)) has
 
     or_true : (b : Bool) → (b || true) ≡ true
     or_true true = refl
@@ -117,7 +137,7 @@ noted_upto (n ∷ notes) epoch horizon row upto is =
     behind : (b : Bool) → list_any (row_eq row) (rows_upto horizon notes) ≡ true →
         list_any (row_eq row) (cond b (n.rows ++ rows_upto horizon notes) (rows_upto horizon notes)) ≡ true
     behind true has =
-        any_append (row_eq row) n.rows (rows_upto horizon notes) ∙ (ap (λ b. list_any (row_eq row) n.rows || b) has ∙ or_true (list_any (row_eq row) n.rows))
+        list_any-append (row_eq row) n.rows (rows_upto horizon notes) ∙ (ap (λ b. list_any (row_eq row) n.rows || b) has ∙ or_true (list_any (row_eq row) n.rows))
     behind false has = has
 
     by : (b c : Bool) → nat_eq n.epoch epoch ≡ b → list_any (row_eq row) n.rows ≡ c → ((b && c) || is_noted notes epoch row) ≡ true →
@@ -176,13 +196,17 @@ all_kept P horizon (version ∷ older) all =
 
 -- ---- what is kept
 
-rising_settled : (row : RowId) (chain : Chain) (rows : Rows) → IsRising row_cmp rows → IsRising row_cmp (settled row chain rows)
-rising_settled row [] rows rising = rising_without row_cmp row_cmp_total row rows rising
-rising_settled row (version ∷ older) rows rising = rising_put row_cmp row_cmp_total row (version ∷ older) rows rising
+rising_settled : (before : ℕ) (row : RowId) (chain : Chain) (rows : Rows) → IsRising row_cmp rows → IsRising row_cmp (settled before row chain rows)
+rising_settled before row [] rows rising = rising_without row_cmp row_cmp_total row rows rising
+rising_settled before row (version ∷ older) rows rising = by (nat_eq (length (version ∷ older)) before)
+  where
+    by : (b : Bool) → IsRising row_cmp (cond b rows (put_in row_cmp row (version ∷ older) rows))
+    by true = rising
+    by false = rising_put row_cmp row_cmp_total row (version ∷ older) rows rising
 
 rising_cut : (horizon : ℕ) (row : RowId) (held : Option Chain) (rows : Rows) → IsRising row_cmp rows → IsRising row_cmp (cut_by horizon row held rows)
 rising_cut horizon row None rows rising = rising
-rising_cut horizon row (Some chain) rows rising = rising_settled row (kept_at horizon chain) rows rising
+rising_cut horizon row (Some chain) rows rising = rising_settled (length chain) row (kept_at horizon chain) rows rising
 
 rising_all_cut : (horizon : ℕ) (names : List RowId) (rows : Rows) → IsRising row_cmp rows → IsRising row_cmp (all_cut horizon names rows)
 rising_all_cut horizon [] rows rising = rising

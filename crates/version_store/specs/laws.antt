@@ -3,4 +3,5 @@ pub mod Answering
 pub mod Growing
 pub mod Keeping
 pub mod Listing
+pub mod Sameness
 pub mod Trimming

@@ -54,6 +54,13 @@ impl Chain {
         Ok(Chain { versions })
     }
 
+    /// How many versions there are.
+    pub(crate) fn len(&self) -> usize
+        ensures { result ≡ length self.now }
+    {
+        self.versions.len()
+    }
+
     /// Whether there are no versions.
     pub(crate) fn is_empty(&self) -> bool
         ensures { result ≡ nat_eq (length self.now) 0 }

@@ -50,26 +50,31 @@ fn cut(
 ) -> Result<(), NoMemory>
     ensures { OnOk result (rows.new ≡ cut horizon row.now rows.old) }
 {
-    let left = match rows.get(row) {
-        Some(chain) => chain.kept_at(alloc, horizon)?,
+    let (left, before) = match rows.get(row) {
+        Some(chain) => (chain.kept_at(alloc, horizon)?, chain.len()),
         None => return Ok(()),
     };
-    settle(alloc, rows, row, left)
+    settle(alloc, rows, row, left, before)
 }
 
-/// Puts the versions at the row, or takes the row out where there are none.
+/// Puts the versions at the row, of which there were so many: where these are as many nothing is done, so that no page
+/// is copied, and where there are none the row is taken out.
 fn settle(
     alloc: Global,
     rows: &mut PageMap<RowId, Chain>,
     row: &RowId,
     chain: Chain,
+    before: usize,
 ) -> Result<(), NoMemory>
-    ensures { OnOk result (rows.new ≡ settled row.now chain rows.old) }
+    ensures { OnOk result (rows.new ≡ settled before row.now chain rows.old) }
 {
     if chain.is_empty() {
         rows.take(row)?;
-    } else {
-        rows.set(row.copy(alloc)?, chain)?;
+        return Ok(());
     }
+    if chain.len() == before {
+        return Ok(());
+    }
+    rows.set(row.copy(alloc)?, chain)?;
     Ok(())
 }

@@ -1,10 +1,11 @@
 //! What kept versions have to do with journals, each the contract of a function that does nothing.
-ghost use Rattle.std.specs.Prelude.{◌≡◌, ◌⊎◌, ℕ, suc, ◌+◌, ◌<◌, ◌≤◌, Some, [], ◌∷◌, List, Contains};
+ghost use Rattle.std.specs.Prelude.{◌≡◌, ◌⊎◌, ℕ, suc, ◌<◌, ◌≤◌, false, Some, [], ◌∷◌, List, Contains};
+ghost use Rattle.std.specs.List.{list_any};
 ghost use Rattle.geo_base.specs.declared.row_id.RowId.{RowId};
 ghost use Rattle.geo_base.specs.declared.row_image.RowImage.{RowImage};
 ghost use Rattle.write_set.specs.declared.change.Change.TheVariants.{Put};
-ghost use Rattle.write_set.specs.Sets.{Rises};
-ghost use Rattle.write_set.specs.Journal.{Journal, Placed, Epochs, Extends, IsJournal, epochs_of, last_sealed};
+ghost use Rattle.write_set.specs.Sets.{Rises, changes_row};
+ghost use Rattle.write_set.specs.Journal.{Journal, Placed, Epochs, Extends, epochs_of, last_sealed};
 ghost use Rattle.write_set.specs.Merge.{committed, last_change};
 ghost use Rattle.write_set.specs.Overlay.{Table, image_in};
 ghost use Rattle.write_set.specs.Snapshot.{changes_of, image_after, snap_at, snap_rows};
@@ -16,7 +17,7 @@ ghost use Rattle.version_store.specs.Listing.{table_at};
 /// has. The newest version of a row is of the row's last change, where that is after the horizon. Where the last
 /// change isn't after the horizon, the newest version isn't either.
 pub fn versions_answer_as_snapshots()
-    ensures images { (journal : Journal) (kept : Kept) (row : RowId) (epoch : ℕ) → IsJournal journal → IsHistoryOf journal kept →
+    ensures images { (journal : Journal) (kept : Kept) (row : RowId) (epoch : ℕ) → IsHistoryOf journal kept →
         kept.horizon ≤ epoch → epoch ≤ kept.applied → image_at (chain_of kept row) epoch ≡ snap_at (epochs_of journal epoch) row }
     ensures after { (journal : Journal) (kept : Kept) (row : RowId) → IsHistoryOf journal kept →
         kept.horizon < last_change (epochs_of journal kept.applied) row →
@@ -37,13 +38,16 @@ pub fn histories_go_on()
 {}
 
 /// Once an epoch is applied, what was read at earlier epochs is read still, and at the new epoch its changes are made
-/// to the newest image of each row, which was read at the last epoch before it. Once the horizon is moved, what was
-/// read from it on is read still.
+/// to the newest image of each row, which was read at the last epoch before it: a row that none of its committed
+/// candidates changes reads as it did. Once the horizon is moved, what was read from it on is read still.
 pub fn what_is_read_stays()
     ensures earlier { (committed : List Placed) (old new : Kept) (row : RowId) (epoch : ℕ) → IsApplied committed old new → epoch ≤ old.applied →
         image_at (chain_of new row) epoch ≡ image_at (chain_of old row) epoch }
     ensures next { (committed : List Placed) (old new : Kept) (row : RowId) → IsKept old → IsApplied committed old new →
         image_at (chain_of new row) new.applied ≡ image_after (changes_of committed) row (newest_image (chain_of old row)) }
+    ensures unchanged { (committed : List Placed) (old new : Kept) (row : RowId) → IsKept old → IsApplied committed old new →
+        list_any (λ c. changes_row row c.set) committed ≡ false →
+        image_at (chain_of new row) new.applied ≡ image_at (chain_of old row) old.applied }
     ensures newest { (kept : Kept) (row : RowId) → IsKept kept → image_at (chain_of kept row) kept.applied ≡ newest_image (chain_of kept row) }
     ensures trimmed { (horizon : ℕ) (old new : Kept) (row : RowId) (epoch : ℕ) → IsTrimmed horizon old new → horizon ≤ epoch →
         image_at (chain_of new row) epoch ≡ image_at (chain_of old row) epoch }
@@ -54,7 +58,7 @@ pub fn what_is_read_stays()
 /// committed candidates put.
 pub fn kept_images_are_read()
     ensures versions { (kept : Kept) (row : RowId) (version : Version) → IsKept kept → Contains (chain_of kept row) version →
-        (epoch : ℕ) × (kept.horizon ≤ epoch) × (epoch < kept.applied + 1) × (image_at (chain_of kept row) epoch ≡ version.image) }
+        (epoch : ℕ) × (kept.horizon ≤ epoch) × (epoch ≤ kept.applied) × (image_at (chain_of kept row) epoch ≡ version.image) }
     ensures images { (chain : Chain) (epoch : ℕ) (image : RowImage) → image_at chain epoch ≡ Some image →
         (version : Version) × Contains chain version × (version.image ≡ Some image) }
     ensures grown { (epoch : ℕ) (committed : List Placed) (row : RowId) (chain : Chain) (version : Version) (image : RowImage) →
@@ -67,7 +71,16 @@ pub fn kept_images_are_read()
 pub fn tables_are_snapshots()
     ensures rises { (kept : Kept) (epoch : ℕ) → IsKept kept → Rises (table_at kept epoch) }
     ensures read { (kept : Kept) (epoch : ℕ) (row : RowId) → IsKept kept → image_in (table_at kept epoch) row ≡ image_at (chain_of kept row) epoch }
-    ensures snapshot { (journal : Journal) (kept : Kept) (epoch : ℕ) → IsJournal journal → IsKept kept → IsHistoryOf journal kept →
+    ensures snapshot { (journal : Journal) (kept : Kept) (epoch : ℕ) → IsKept kept → IsHistoryOf journal kept →
         kept.horizon ≤ epoch → epoch ≤ kept.applied → table_at kept epoch ≡ snap_rows (epochs_of journal epoch) }
     ensures same { (a b : Table) → Rises a → Rises b → ((row : RowId) → image_in a row ≡ image_in b row) → a ≡ b }
+{}
+
+/// What is kept in order is told by its horizon, its last epoch and the versions of each row. So of one journal there
+/// is one value that is kept, at each horizon and last epoch.
+pub fn histories_are_one()
+    ensures chains { (a b : Kept) → IsKept a → IsKept b → a.horizon ≡ b.horizon → a.applied ≡ b.applied →
+        ((row : RowId) → chain_of a row ≡ chain_of b row) → a ≡ b }
+    ensures journal { (journal : Journal) (a b : Kept) → IsKept a → IsKept b → IsHistoryOf journal a → IsHistoryOf journal b →
+        a.horizon ≡ b.horizon → a.applied ≡ b.applied → a ≡ b }
 {}

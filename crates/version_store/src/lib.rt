@@ -17,8 +17,8 @@ mod versions;
 mod writing;
 
 pub use laws::{
-    histories_go_on, kept_images_are_read, tables_are_snapshots, versions_answer_as_snapshots,
-    what_is_read_stays,
+    histories_are_one, histories_go_on, kept_images_are_read, tables_are_snapshots,
+    versions_answer_as_snapshots, what_is_read_stays,
 };
 pub use page_map::Border;
 pub use versions::{TooOld, Versions};

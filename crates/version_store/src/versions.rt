@@ -2,9 +2,9 @@
 ghost use Rattle.std.specs.Prelude.{◌≡◌, ◌+◌, ◌<◌, ◌≤◌, [], length, map, IfOk, IfErr, OnOk, OnErr};
 ghost use Rattle.std.specs.Option.{option_copied};
 ghost use Rattle.page_map.specs.Borders.{IsBorder, pairs_between};
-ghost use Rattle.write_set.specs.Journal.{Journal, IsJournal, candidates_of, epochs_of};
+ghost use Rattle.write_set.specs.Journal.{Journal, candidates_of, epochs_of};
 ghost use Rattle.write_set.specs.Merge.{committed_among, last_change};
-ghost use Rattle.write_set.specs.Snapshot.{snap_at};
+ghost use Rattle.write_set.specs.Snapshot.{snap_at, snap_rows};
 ghost use Rattle.version_store.specs.Chains.{image_at, newest_epoch};
 ghost use Rattle.version_store.specs.History.{chain_of, IsKept, IsHistoryOf, TellsChange, AreNextOf, IsApplied, IsTrimmed};
 ghost use Rattle.version_store.specs.Listing.{table_at};
@@ -64,7 +64,7 @@ impl Versions {
     }
 
     /// That the rows and their versions are in order. Does nothing when it runs.
-    pub fn is_kept(&self)
+    pub fn keeps_order(&self)
         ensures { IsKept self.now }
     {
         let _horizon = self.horizon;
@@ -91,7 +91,7 @@ impl Versions {
         requires from { self.now.horizon ≤ epoch }
         requires upto { epoch ≤ self.now.applied }
         ensures kept { option_copied result ≡ image_at (chain_of self.now row.now) epoch }
-        ensures snapshot { (journal : Journal) → IsJournal journal → IsHistoryOf journal self.now → option_copied result ≡ snap_at (epochs_of journal epoch) row.now }
+        ensures snapshot { (journal : Journal) → IsHistoryOf journal self.now → option_copied result ≡ snap_at (epochs_of journal epoch) row.now }
     {
         self.image_of(row, epoch)
     }
@@ -149,7 +149,8 @@ impl Versions {
         requires upto { epoch ≤ self.now.applied }
         requires first { IsBorder (A.before first.now) self.now.rows }
         requires last { IsBorder (B.before last.now) self.now.rows }
-        ensures { IfOk result (λ found. map (λ p. (p.0.now, p.1.now)) found.items ≡ pairs_between (A.before first.now) (B.before last.now) (table_at self.now epoch)) }
+        ensures kept { IfOk result (λ found. map (λ p. (p.0.now, p.1.now)) found.items ≡ pairs_between (A.before first.now) (B.before last.now) (table_at self.now epoch)) }
+        ensures snapshot { (journal : Journal) → IsHistoryOf journal self.now → IfOk result (λ found. map (λ p. (p.0.now, p.1.now)) found.items ≡ pairs_between (A.before first.now) (B.before last.now) (snap_rows (epochs_of journal epoch))) }
     {
         let pairs = self
             .rows
@@ -201,8 +202,9 @@ impl Versions {
     /// Moves the horizon up to the epoch, and leaves of each row's versions those that are newer, and of the others
     /// the newest one unless it is a removal. Without memory nothing changes.
     ///
-    /// Takes a step for each epoch after the horizon, and for each row that an epoch up to the new horizon changed two
-    /// searches, a look at each of its versions that is newer, and a copy of its page, also where nothing is left out.
+    /// Takes a step for each epoch after the horizon, and for each row that an epoch up to the new horizon changed a
+    /// search and a step for each of its versions that is left; where not all of them are, a second search and a copy
+    /// of a page of rows, with their keys and the pointers to their versions.
     pub fn trim(&mut self, horizon: Epoch) -> Result<(), NoMemory>
         requires from { self.old.horizon ≤ horizon }
         requires upto { horizon ≤ self.old.applied }

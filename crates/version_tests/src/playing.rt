@@ -1,5 +1,5 @@
 //! Versions that are played with by lines.
-use crate::epochs::apply;
+use crate::epochs::{apply, apply_many};
 use crate::telling::{checked, listed, read, told_of};
 use std::alloc::Global;
 use std::mem::swap;
@@ -31,23 +31,24 @@ fn wait(alloc: Global, versions: &mut Versions, words: &str) -> Result<(), Fail>
     Ok(())
 }
 
+/// Applies an epoch that changes many rows alike: those between two keys.
+fn many(alloc: Global, versions: &mut Versions, words: &str) -> Result<(), Fail> {
+    let (first, rest) = words.split_once(' ').ok_or("no last row")?;
+    let (last, change) = rest.split_once(' ').ok_or("no change")?;
+    apply_many(alloc, versions, first.parse()?, last.parse()?, change)
+}
+
 fn told_of_row(alloc: Global, versions: &Versions, words: &str) -> Result<String, Fail> {
     match words.split_once(' ') {
-        Some((key, epoch)) => read(alloc, versions, key.parse()?, epoch.parse()?),
-        None => told_of(alloc, versions, words.parse()?),
+        Some((row, epoch)) => read(alloc, versions, row, epoch.parse()?),
+        None => told_of(alloc, versions, words),
     }
 }
 
 fn told_of_rows(alloc: Global, versions: &Versions, words: &str) -> Result<String, Fail> {
     let (first, rest) = words.split_once(' ').ok_or("no last row")?;
     let (last, epoch) = rest.split_once(' ').ok_or("no epoch")?;
-    listed(
-        alloc,
-        versions,
-        first.parse()?,
-        last.parse()?,
-        epoch.parse()?,
-    )
+    listed(alloc, versions, first, last, epoch.parse()?)
 }
 
 /// What the versions are asked.
@@ -73,6 +74,7 @@ fn answer(alloc: Global, play: &mut Play, line: &str) -> Result<String, Fail> {
     let (verb, words) = line.split_once(' ').unwrap_or((line, ""));
     match verb {
         "apply" => apply(alloc, &mut play.versions, words)?,
+        "many" => many(alloc, &mut play.versions, words)?,
         "trim" => trim(&mut play.versions, words)?,
         "wait" => wait(alloc, &mut play.versions, words)?,
         "fork" => fork(play)?,

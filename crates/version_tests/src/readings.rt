@@ -145,3 +145,82 @@ fn rows_are_listed_between_borders(rt: HostRuntime) -> Result<(), Fail> {
     assert_eq!(rt; first_wrong(rt.alloc(), LISTED)?, None);
     Ok(())
 }
+
+/// Each candidate changes several rows, the second region's in another table, whose keys have two cells. One that has
+/// only the first cell in common is another row.
+const SEVERAL: &str = "\
+apply 1=10,2=20,3=30 / 1:2.4=24,1:2.5=25,1:1.9=19
+apply -1,2=21,@3 / -1:2.4,1:2.5=26
+row 1 => 0- 1(10) 2- last 2
+row 2 => 0- 1(20) 2(21) last 2
+row 3 => 0- 1(30) 2(30) last 1
+row 1:1.9 => 0- 1(19) 2(19) last 1
+row 1:2.4 => 0- 1(24) 2- last 2
+row 1:2.5 => 0- 1(25) 2(26) last 2
+row 1:2 => 0- 1- 2- last 0
+row 2.5 => 0- 1- 2- last 0
+rows 0 9 1 => (1)(10)(2)(20)(3)(30)
+rows 0 1:9.9 1 => (1)(10)(2)(20)(3)(30)(1, 9)(19)(2, 4)(24)(2, 5)(25)
+rows 1:0.0 1:2.5 1 => (1, 9)(19)(2, 4)(24)
+rows 1:2.0 1:3.0 2 => (2, 5)(26)
+trim 2
+rows 0 1:9.9 2 => (2)(21)(3)(30)(1, 9)(19)(2, 5)(26)
+row 1 => 2- last 0
+row 2 => 2(21) last 2
+row 3 => 2(30) last 1
+row 1:2.4 => 2- last 0";
+
+/// Several committed candidates change one row, in one epoch and in one after another: the last one of an epoch, by
+/// region and then as they stand, decides what the epoch leaves.
+const SHARED: &str = "\
+apply 1=10 1=11 / 1=12
+apply 1=13 / -1
+apply -1 / 1=14
+apply 1=15
+apply @1 / 1=16
+row 1 => 0- 1(12) 2- 3(14) 4(15) 5(16) last 5
+trim 2
+row 1 => 2- 3(14) 4(15) 5(16) last 5
+trim 4
+row 1 => 4(15) 5(16) last 5
+trim 5
+row 1 => 5(16) last 5";
+
+#[test]
+fn candidates_change_several_rows_and_share_some(rt: HostRuntime) -> Result<(), Fail> {
+    assert_eq!(rt; first_wrong(rt.alloc(), SEVERAL)?, None);
+    assert_eq!(rt; first_wrong(rt.alloc(), SHARED)?, None);
+    Ok(())
+}
+
+/// Rows that stand in several pages: all are put, some of them are put again, and more than a half of them go.
+const MANY: &str = "\
+many 1 200 =7
+rows 0 999 0 => none
+rows 0 999 1 => 200 rows
+rows 63 67 1 => (63)(7)(64)(7)(65)(7)(66)(7)
+rows 199 999 1 => (199)(7)(200)(7)
+many 100 150 =8
+rows 98 102 2 => (98)(7)(99)(7)(100)(8)(101)(8)
+rows 149 153 2 => (149)(8)(150)(8)(151)(7)(152)(7)
+rows 149 153 1 => (149)(7)(150)(7)(151)(7)(152)(7)
+many 1 120 -
+rows 0 999 3 => 80 rows
+rows 0 123 3 => (121)(8)(122)(8)
+trim 2
+rows 0 999 2 => 200 rows
+rows 98 101 2 => (98)(7)(99)(7)(100)(8)
+row 110 => 2(8) 3- last 3
+row 130 => 2(8) 3(8) last 2
+trim 3
+rows 0 999 3 => 80 rows
+rows 0 123 3 => (121)(8)(122)(8)
+row 110 => 3- last 0
+row 130 => 3(8) last 2
+row 160 => 3(7) last 1";
+
+#[test]
+fn rows_stand_in_several_pages(rt: HostRuntime) -> Result<(), Fail> {
+    assert_eq!(rt; first_wrong(rt.alloc(), MANY)?, None);
+    Ok(())
+}

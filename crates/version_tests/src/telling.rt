@@ -10,6 +10,9 @@ use std::test::Fail;
 use version_store::{TooOld, Versions};
 use write_set::{Changes, KeptVersions};
 
+/// How many rows are told one by one.
+const MOST_LISTED: usize = 8;
+
 /// Whether the epoch can be read.
 fn is_kept(versions: &Versions, epoch: Epoch) -> bool
     ensures from { IsTrue result → versions.now.horizon ≤ epoch }
@@ -26,8 +29,8 @@ fn print_image(out: &mut String, image: Option<&RowImage>) -> Result<(), NoMemor
 }
 
 /// What is read of the row at the epoch: its cells, or `-` where there was no such row.
-pub fn read(alloc: Global, versions: &Versions, key: i64, epoch: Epoch) -> Result<String, Fail> {
-    let row = row_of(alloc, key)?;
+pub fn read(alloc: Global, versions: &Versions, row: &str, epoch: Epoch) -> Result<String, Fail> {
+    let row = row_of(alloc, row)?;
     let mut out = String::new(alloc);
     if !is_kept(versions, epoch) {
         return Err("an epoch that isn't kept".into());
@@ -53,8 +56,8 @@ fn change_of<C: Changes>(changes: &C, row: &RowId) -> Epoch {
 }
 
 /// What is read of the row at each epoch that can be read, and its last change.
-pub fn told_of(alloc: Global, versions: &Versions, key: i64) -> Result<String, Fail> {
-    let row = row_of(alloc, key)?;
+pub fn told_of(alloc: Global, versions: &Versions, row: &str) -> Result<String, Fail> {
+    let row = row_of(alloc, row)?;
     let mut out = history(alloc, versions, &row)?;
     let last = versions.last_change(&row);
     if change_of(versions, &row) != last {
@@ -64,12 +67,13 @@ pub fn told_of(alloc: Global, versions: &Versions, key: i64) -> Result<String, F
     Ok(out)
 }
 
-/// The rows that there were after the epoch, from the first key on and before the last, or `none`.
+/// The rows that there were after the epoch, from the first one on and before the last: their keys and cells, how many
+/// they are where they are more than [`MOST_LISTED`], or `none`.
 pub fn listed(
     alloc: Global,
     versions: &Versions,
-    first: i64,
-    last: i64,
+    first: &str,
+    last: &str,
     epoch: Epoch,
 ) -> Result<String, Fail> {
     let first = row_of(alloc, first)?;
@@ -78,8 +82,12 @@ pub fn listed(
     if !is_kept(versions, epoch) {
         return Err("an epoch that isn't kept".into());
     }
-    versions.is_kept();
+    versions.keeps_order();
     let found = versions.rows_between(&InFront { row: &first }, &InFront { row: &last }, epoch)?;
+    if found.len() > MOST_LISTED {
+        write!(out, "{} rows", found.len())?;
+        return Ok(out);
+    }
     for pair in &found {
         print_row(&mut out, pair.0.key.cells())?;
         print_row(&mut out, pair.1.cells())?;

@@ -1,5 +1,5 @@
 -- Inner: what the code makes of the rows with their versions, a row at a time.
-use Rattle.std.specs.Prelude.{ℕ, nat_eq, Option, None, Some, unwrap_or, List, [], ◌∷◌, if◌then◌else◌}
+use Rattle.std.specs.Prelude.{ℕ, nat_eq, Option, None, Some, unwrap_or, List, [], ◌∷◌, length, if◌then◌else◌}
 use Rattle.geo_base.specs.declared.row_id.RowId.{RowId}
 use Rattle.geo_base.specs.Order.{row_cmp}
 use Rattle.write_set.specs.declared.change.Change.TheVariants.{Put, Remove, Touch}
@@ -35,15 +35,16 @@ abbrev pub all_written : ℕ → List ChangeOfRow → Rows → Rows
 all_written epoch [] rows = rows
 all_written epoch (p ∷ ps) rows = all_written epoch ps (written epoch p rows)
 
--- the rows with these versions of the row, or without the row where there are none
-abbrev pub settled : RowId → Chain → Rows → Rows
-settled row [] rows = without row_cmp row rows
-settled row (version ∷ older) rows = put_in row_cmp row (version ∷ older) rows
+-- the rows with these versions of the row, of which there were so many: as they were where these are as many, and without the row where there are none
+abbrev pub settled : ℕ → RowId → Chain → Rows → Rows
+settled before row [] rows = without row_cmp row rows
+settled before row (version ∷ older) rows =
+    if nat_eq (length (version ∷ older)) before then rows else put_in row_cmp row (version ∷ older) rows
 
 -- the rows with what the horizon leaves of the versions that were found of the row
 abbrev pub cut_by : ℕ → RowId → Option Chain → Rows → Rows
 cut_by horizon row None rows = rows
-cut_by horizon row (Some chain) rows = settled row (kept_at horizon chain) rows
+cut_by horizon row (Some chain) rows = settled (length chain) row (kept_at horizon chain) rows
 
 -- the rows with what the horizon leaves of the versions of one row
 abbrev pub cut : ℕ → RowId → Rows → Rows

@@ -1,20 +1,26 @@
 -- Laws: the versions that the epochs made answer as the snapshots do, and the newest is of the last change.
-use Rattle.std.proofs.Common.{◌≡◌, ⊎_elim, ℕ, zero, suc, ◌+◌, ◌≤◌, Bool, true, false, cond, [], ◌∷◌, length, refl, sym, ap, ◌∙◌, subst, arith}
+use Rattle.std.proofs.Common.{◌≡◌, ⊎_elim, ℕ, zero, suc, ◌+◌, ◌≤◌, Bool, true, false, cond, ◌&&◌, ◌||◌, List, [], ◌∷◌, length, refl, sym, ap, ◌∙◌, subst, arith}
 use Rattle.std.specs.List.{list_any}
 use Rattle.std.proofs.lemmas.Bool.{cases_lt}
 use Rattle.std.proofs.lemmas.Bool.Decides.{nat_tests}
+use Rattle.std.proofs.lemmas.List.Folds.{list_any-append}
 use Rattle.geo_base.specs.declared.row_id.RowId.{RowId}
-use Rattle.write_set.specs.Sets.{changes_row}
-use Rattle.write_set.specs.Journal.{Journal, Epochs, IsJournal, epochs_of, last_sealed}
+use Rattle.geo_base.specs.Order.{row_eq}
+use Rattle.write_set.specs.Sets.{ChangeOfRow, alters, changes_row}
+use Rattle.write_set.specs.Journal.{Journal, Placed, Epochs, epochs_of}
 use Rattle.write_set.specs.Merge.{committed, last_change}
 use Rattle.write_set.specs.Snapshot.{changes_of, image_after, snap_at}
-use Rattle.write_set.specs.Isolation.{AppliesEpoch}
-use Rattle.write_set.specs.laws.Among.{none_among}
 use Rattle.write_set.specs.laws.Placing.{length_epochs}
-use Rattle.write_set.specs.laws.Isolating.{is_isolated}
+use Rattle.write_set.specs.laws.Isolating.{after_none}
 use Rattle.version_store.specs.Chains.{Version, Chain, image_at, newest_image, newest_epoch}
 use Rattle.version_store.specs.History.{versions_of}
 use Rattle.version_store.specs.laws.Trimming.{found_first}
+
+-- candidates change a row where their changes, one after another, do
+pub any_changes : (cs : List Placed) (row : RowId) → changes_row row (changes_of cs) ≡ list_any (λ c. changes_row row c.set) cs
+any_changes [] row = refl
+any_changes (c ∷ cs) row =
+    list_any-append (λ (p : ChangeOfRow). row_eq row p.0 && alters p.1) c.set (changes_of cs) ∙ ap (λ b. changes_row row c.set || b) (any_changes cs row)
 
 -- at its own epoch and later the newest version answers
 pub newest_answers : (chain : Chain) (epoch : ℕ) → newest_epoch chain ≤ epoch → image_at chain epoch ≡ newest_image chain
@@ -52,7 +58,7 @@ newest_within journal epoch row = omega (arith, newest_is_last (epochs_of journa
 abbrev Answer : Journal → ℕ → RowId → Type 0
 Answer journal last row = (epoch : ℕ) → epoch ≤ last → image_at (versions_of (epochs_of journal last) row) epoch ≡ snap_at (epochs_of journal epoch) row
 
-module _ (journal : Journal) (last : ℕ) (row : RowId) (lawful : IsJournal journal) (sealed : suc last ≤ last_sealed journal) (rest : Answer journal last row) where
+module _ (journal : Journal) (last : ℕ) (row : RowId) (rest : Answer journal last row) where
   abbrev some : Bool
   some = list_any (λ c. changes_row row c.set) (committed (epochs_of journal (suc last)))
 
@@ -85,7 +91,7 @@ module _ (journal : Journal) (last : ℕ) (row : RowId) (lawful : IsJournal jour
       by false is =
           newest_answers chain (suc last) (omega (arith, newest_within journal last row))
           ∙ newest_snap
-          ∙ sym (AppliesEpoch.kept ((is_isolated journal lawful).applies last sealed) row (λ c commits. none_among (λ d. changes_row row d.set) (committed (epochs_of journal (suc last))) c is commits.among))
+          ∙ sym (after_none (changes_of (committed (epochs_of journal (suc last)))) row (snap_at (epochs_of journal last) row) (any_changes (committed (epochs_of journal (suc last))) row ∙ is))
 
   next_answers : Answer journal (suc last) row
   next_answers epoch within =
@@ -94,11 +100,10 @@ module _ (journal : Journal) (last : ℕ) (row : RowId) (lawful : IsJournal jour
       (λ other. subst (λ e. image_at (versions_of (epochs_of journal (suc last)) row) e ≡ snap_at (epochs_of journal e) row) (omega (arith, other, within)) now)
       (cases_lt epoch (suc last))
 
-pub versions_answer : (journal : Journal) (last : ℕ) (row : RowId) → IsJournal journal → last ≤ last_sealed journal → Answer journal last row
-versions_answer journal zero row lawful sealed = at_first
+pub versions_answer : (journal : Journal) (last : ℕ) (row : RowId) → Answer journal last row
+versions_answer journal zero row = at_first
   where
     at_first : Answer journal zero row
     at_first zero within = refl
     at_first (suc epoch) within = absurd (omega (arith, within))
-versions_answer journal (suc last) row lawful sealed =
-    next_answers journal last row lawful sealed (versions_answer journal last row lawful (omega (arith, sealed)))
+versions_answer journal (suc last) row = next_answers journal last row (versions_answer journal last row)

@@ -3,7 +3,7 @@ use Rattle.std.proofs.Common.{◌≡◌, ℕ, suc, ◌+◌, ◌<◌, ◌≤◌, 
 use Rattle.geo_base.specs.declared.row_id.RowId.{RowId}
 use Rattle.geo_base.specs.declared.outcome.Outcome.{Outcome}
 use Rattle.write_set.specs.declared.batch.Batch.{Batch}
-use Rattle.write_set.specs.Journal.{Journal, Placed, Epochs, Extends, IsJournal, batches_at, candidates_of, epochs_of, last_sealed}
+use Rattle.write_set.specs.Journal.{Journal, Placed, Epochs, Extends, batches_at, candidates_of, epochs_of, last_sealed}
 use Rattle.write_set.specs.Merge.{committed, committed_among, last_change}
 use Rattle.write_set.specs.Snapshot.{snap_at}
 use Rattle.write_set.specs.laws.Committing.{verdicts_commit}
@@ -16,12 +16,12 @@ use Rattle.version_store.specs.laws.Answering.{newest_is_last, versions_answer}
 
 -- ---- what is answered
 
-pub images : (journal : Journal) (kept : Kept) (row : RowId) (epoch : ℕ) → IsJournal journal → IsHistoryOf journal kept →
+pub images : (journal : Journal) (kept : Kept) (row : RowId) (epoch : ℕ) → IsHistoryOf journal kept →
     kept.horizon ≤ epoch → epoch ≤ kept.applied → image_at (chain_of kept row) epoch ≡ snap_at (epochs_of journal epoch) row
-images journal kept row epoch lawful history from upto =
+images journal kept row epoch history from upto =
     ap (λ chain. image_at chain epoch) (history.chains row)
     ∙ answers_from kept.horizon (versions_of (epochs_of journal kept.applied) row) epoch from
-    ∙ versions_answer journal kept.applied row lawful history.sealed epoch upto
+    ∙ versions_answer journal kept.applied row epoch upto
 
 pub change_after : (journal : Journal) (kept : Kept) (row : RowId) → IsHistoryOf journal kept →
     kept.horizon < last_change (epochs_of journal kept.applied) row →

@@ -1,5 +1,5 @@
 -- Laws: what kept versions answer after an epoch is applied and after the horizon is moved, and which images they hold.
-use Rattle.std.proofs.Common.{◌≡◌, ◌⊎◌, inl, inr, ⊎_elim, ℕ, ◌+◌, ◌<◌, ◌≤◌, Bool, true, false, cond, ◌&&◌, ◌||◌, nat_le, nat_lt, Option, None, Some, unwrap_or, List, [], ◌∷◌, ◌++◌, length, Contains, refl, sym, ap, ◌∙◌, subst, arith}
+use Rattle.std.proofs.Common.{◌≡◌, ◌⊎◌, inl, inr, ⊎_elim, ℕ, ◌+◌, ◌<◌, ◌≤◌, Bool, true, false, cond, nat_le, nat_lt, Option, None, Some, unwrap_or, List, [], ◌∷◌, length, Contains, refl, sym, ap, ◌∙◌, subst, arith}
 use Rattle.std.specs.List.{list_any}
 use Rattle.std.specs.Option.{is_some}
 use Rattle.std.proofs.lemmas.Bool.Decides.{nat_tests}
@@ -7,7 +7,7 @@ use Rattle.geo_base.specs.declared.row_id.RowId.{RowId}
 use Rattle.geo_base.specs.declared.row_image.RowImage.{RowImage}
 use Rattle.geo_base.specs.Order.{row_cmp, row_eq}
 use Rattle.write_set.specs.declared.change.Change.TheVariants.{Put, Remove, Touch}
-use Rattle.write_set.specs.Sets.{ChangeOfRow, alters, changes_row}
+use Rattle.write_set.specs.Sets.{ChangeOfRow, changes_row}
 use Rattle.write_set.specs.Journal.{Placed}
 use Rattle.write_set.specs.Snapshot.{changes_of, image_left, image_after}
 use Rattle.write_set.specs.laws.Among.{among_none, among_first, among_later, among_cases}
@@ -17,23 +17,7 @@ use Rattle.page_map.specs.Pairs.{found_at}
 use Rattle.version_store.specs.Chains.{Version, Chain, FallsBelow, image_at, newest_image, newest_epoch, grown, kept_at}
 use Rattle.version_store.specs.History.{Kept, chain_of, IsKept, IsApplied, IsTrimmed}
 use Rattle.version_store.specs.laws.Trimming.{found_first, answers_from}
-use Rattle.version_store.specs.laws.Answering.{newest_answers}
-
--- ---- the changes of several candidates
-
-pub any_append : {X : Type 0} (test : X → Bool) (xs ys : List X) → list_any test (xs ++ ys) ≡ list_any test xs || list_any test ys
-any_append test [] ys = refl
-any_append test (x ∷ xs) ys = by (test x) (any_append test xs ys)
-  where
-    by : (b : Bool) → list_any test (xs ++ ys) ≡ list_any test xs || list_any test ys →
-        (b || list_any test (xs ++ ys)) ≡ ((b || list_any test xs) || list_any test ys)
-    by true rest = refl
-    by false rest = rest
-
-pub any_changes : (cs : List Placed) (row : RowId) → changes_row row (changes_of cs) ≡ list_any (λ c. changes_row row c.set) cs
-any_changes [] row = refl
-any_changes (c ∷ cs) row =
-    any_append (λ (p : ChangeOfRow). row_eq row p.0 && alters p.1) c.set (changes_of cs) ∙ ap (λ b. changes_row row c.set || b) (any_changes cs row)
+use Rattle.version_store.specs.laws.Answering.{any_changes, newest_answers}
 
 -- ---- what is kept of a row
 
@@ -91,6 +75,14 @@ module _ (committed : List Placed) (old new : Kept) (row : RowId) (step : IsAppl
       by false is =
           newest_answers (chain_of old row) (old.applied + 1) within
           ∙ sym (after_none (changes_of committed) row (newest_image (chain_of old row)) (any_changes committed row ∙ is))
+
+  -- a row that none of them changes reads as it did
+  pub unchanged_is_read : IsKept old → list_any (λ c. changes_row row c.set) committed ≡ false →
+      image_at (chain_of new row) new.applied ≡ image_at (chain_of old row) old.applied
+  unchanged_is_read lawful none =
+      next_is_read lawful
+      ∙ after_none (changes_of committed) row (newest_image (chain_of old row)) (any_changes committed row ∙ none)
+      ∙ sym (newest_is_read old row lawful)
 
 -- ---- after the horizon is moved
 

@@ -15,7 +15,7 @@ use Rattle.geo_base.specs.declared.row_image.RowImage.{RowImage}
 use Rattle.geo_base.specs.Order.{row_cmp, row_eq}
 use Rattle.geo_base.specs.laws.Orders.{row_cmp_total, same_row, row_eq_equiv, row_eq_ties}
 use Rattle.write_set.specs.Sets.{Rises}
-use Rattle.write_set.specs.Journal.{Journal, IsJournal, epochs_of}
+use Rattle.write_set.specs.Journal.{Journal, epochs_of}
 use Rattle.write_set.specs.Overlay.{Table, image_in}
 use Rattle.write_set.specs.Snapshot.{snap_rows}
 use Rattle.write_set.specs.laws.Rivals.{row_same}
@@ -120,11 +120,11 @@ same_tables a b rise_a rise_b same =
     entries.same_entries row_cmp row_cmp_total same_row a b (sorted_entries a rise_a) (sorted_entries b rise_b)
     (λ row. found_so row a ∙ same row ∙ sym (found_so row b))
 
-pub table_is_snapshot : (journal : Journal) (kept : Kept) (epoch : ℕ) → IsJournal journal → IsKept kept → IsHistoryOf journal kept →
+pub table_is_snapshot : (journal : Journal) (kept : Kept) (epoch : ℕ) → IsKept kept → IsHistoryOf journal kept →
     kept.horizon ≤ epoch → epoch ≤ kept.applied → table_at kept epoch ≡ snap_rows (epochs_of journal epoch)
-table_is_snapshot journal kept epoch lawful order history from upto =
+table_is_snapshot journal kept epoch order history from upto =
     same_tables (table_at kept epoch) (snap_rows (epochs_of journal epoch)) (listed_rises epoch kept.rows order.rising) (rises_snap (epochs_of journal epoch))
-    (λ row. listed_is_read epoch kept.rows row order.rising ∙ images journal kept row epoch lawful history from upto ∙ sym (image_snap (epochs_of journal epoch) row))
+    (λ row. listed_is_read epoch kept.rows row order.rising ∙ images journal kept row epoch history from upto ∙ sym (image_snap (epochs_of journal epoch) row))
 
 -- ---- between borders
 
