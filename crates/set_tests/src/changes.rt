@@ -116,6 +116,19 @@ pub fn with_changes(
     }
 }
 
+/// What [`WriteSet::apply`] answers, or None where a touched row isn't in the snapshot.
+pub fn apply_changes(
+    alloc: Global,
+    set: &mut WriteSet,
+    changes: Vec<RowChange>,
+) -> Option<Result<(), SetFault>> {
+    if are_known(&changes) {
+        Some(set.apply(alloc, changes))
+    } else {
+        None
+    }
+}
+
 /// Whether the row is in the snapshot, or the set has it, or it isn't touched.
 fn is_known_to(set: &WriteSet, change: &RowChange) -> bool
     ensures { IsTrue result → change.now.change ≡ Touch → change_in set.now change.now.row ≡ None → change.now.before ≡ true }
@@ -139,4 +152,12 @@ pub fn with_words(alloc: Global, set: &WriteSet, words: &str) -> Result<WriteSet
     let changes = row_changes_of(alloc, words)?;
     let net = with_changes(alloc, set, changes).ok_or("a touch of an unknown row")?;
     Ok(net?)
+}
+
+/// The set with the changes of the words made in it.
+pub fn applied_words(alloc: Global, mut set: WriteSet, words: &str) -> Result<WriteSet, Fail> {
+    let changes = row_changes_of(alloc, words)?;
+    let told = apply_changes(alloc, &mut set, changes).ok_or("a touch of an unknown row")?;
+    told?;
+    Ok(set)
 }

@@ -1,5 +1,8 @@
 //! Net write sets, worked by hand from the rule of the net.
-use crate::changes::{add_change, row_changes_of, row_of, with_changes, with_word, with_words};
+use crate::changes::{
+    add_change, applied_words, apply_changes, row_changes_of, row_of, with_changes, with_word,
+    with_words,
+};
 use geo_base::{Cell, Duplicate, RowImage, Txt};
 use std::alloc::Global;
 use std::test::Fail;
@@ -43,12 +46,21 @@ fn net_of(alloc: Global, set: &str, changes: &str) -> Result<WriteSet, Fail> {
     with_words(alloc, &set, changes)
 }
 
+/// The same, with all changes made in one set.
+fn net_in_place(alloc: Global, set: &str, changes: &str) -> Result<WriteSet, Fail> {
+    let set = applied_words(alloc, WriteSet::empty(alloc), set)?;
+    applied_words(alloc, set, changes)
+}
+
+/// Whether the net says this and has this size, made in a copy and made in place.
 fn is_net(
     alloc: Global,
     (set, changes, text, size): (&str, &str, &str, u64),
 ) -> Result<bool, Fail> {
     let net = net_of(alloc, set, changes)?;
-    Ok(net.size() == size && says(alloc, &net, text)?)
+    let in_place = net_in_place(alloc, set, changes)?;
+    let sizes = (net.size(), in_place.size());
+    Ok(sizes == (size, size) && says(alloc, &net, text)? && says(alloc, &in_place, text)?)
 }
 
 /// Changes of a set, those after them, and what is left, with its size. `+` stands before a row that the
@@ -153,6 +165,66 @@ fn told(alloc: Global, rows: i64, first: usize, behind: &str) -> Result<Option<S
         Some(net) => Ok(net.err()),
         None => Err("a touch of an unknown row".into()),
     }
+}
+
+/// What the puts and the changes behind them are told, made in the set of these words, and how many rows and
+/// bytes the set has then.
+fn told_in_place(
+    alloc: Global,
+    set: &str,
+    (rows, first, behind): (i64, usize, &str),
+) -> Result<(Option<SetFault>, u32, u64), Fail> {
+    let mut set = applied_words(alloc, WriteSet::empty(alloc), set)?;
+    let mut changes = puts_of(alloc, rows, first)?;
+    for change in row_changes_of(alloc, behind)? {
+        changes.push(change)?;
+    }
+    match apply_changes(alloc, &mut set, changes) {
+        Some(told) => Ok((told.err(), set.count(), set.size())),
+        None => Err("a touch of an unknown row".into()),
+    }
+}
+
+/// A touch has 11 bytes, and 1,023 changes of 1,024 bytes have 1,047,552. Refused changes leave the set.
+#[test]
+fn the_limits_are_tested_in_place(rt: HostRuntime) -> Result<(), Fail> {
+    for (set, puts, told) in [
+        ("", (1024, 1010, ""), (None, 1024, 1_048_576)),
+        ("", (1024, 1011, ""), (Some(SetFault::TooLarge), 0, 0)),
+        ("", (1025, 1010, ""), (Some(SetFault::TooManyRows), 0, 0)),
+        ("", (1025, 1011, ""), (Some(SetFault::TooManyRows), 0, 0)),
+        ("", (1025, 1010, "+0"), (None, 1024, 1_048_576)),
+        ("", (1025, 1011, "+0"), (None, 1024, 1_048_576)),
+        ("@2000", (1023, 1010, ""), (None, 1024, 1_047_563)),
+        (
+            "@2000",
+            (1024, 1010, ""),
+            (Some(SetFault::TooManyRows), 1, 11),
+        ),
+        ("@0", (1024, 1011, ""), (Some(SetFault::TooLarge), 1, 11)),
+    ] {
+        let is = told_in_place(rt.alloc(), set, puts)?;
+        assert_eq!(rt; is, told, "{set} {puts:?}");
+    }
+    Ok(())
+}
+
+/// The set that is left by so many calls, of which each puts one more row, with 1,024 bytes.
+fn grown(alloc: Global, rows: i64) -> Result<WriteSet, Fail> {
+    let mut set = WriteSet::empty(alloc);
+    for key in 0..rows {
+        let changes = vec![in alloc; put_of(alloc, key, 1010)?]?;
+        let told = apply_changes(alloc, &mut set, changes).ok_or("a touch of an unknown row")?;
+        told?;
+    }
+    Ok(set)
+}
+
+#[test]
+fn a_set_grows_by_a_row_a_call(rt: HostRuntime) -> Result<(), Fail> {
+    let set = grown(rt.alloc(), 1024)?;
+    assert_eq!(rt; (set.count(), set.size()), (1024, 1_048_576));
+    Ok(())
 }
 
 /// A change of 1,024 bytes has a text of 1,010 of them behind its table, its kind, its key of 9 bytes, and
