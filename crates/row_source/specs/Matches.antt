@@ -39,8 +39,8 @@ abbrev pub alone : RowImage → Pair
 alone row = record { left = row; right = None }
 
 -- a row of the left table beside one of the right table
-abbrev pub beside : RowImage → RowImage → Pair
-beside left right = record { left = left; right = Some right }
+abbrev pub paired : RowImage → RowImage → Pair
+paired left right = record { left = left; right = Some right }
 
 -- the cells of the right row, where there is one
 abbrev pub right_cells : Option RowImage → List Cell
@@ -53,7 +53,7 @@ pair_cells pair = pair.left ++ right_cells pair.right
 
 -- each left row with each right one
 abbrev pub product : List RowImage → List RowImage → List Pair
-product lefts rights = flat_map (λ left. map (beside left) rights) lefts
+product lefts rights = flat_map (λ left. map (paired left) rights) lefts
 
 -- the rows of one table in the order of their keys, or the pairs of two in the order of left key and then right key
 abbrev pub pairs_of : List ℕ → Table → List Pair

@@ -19,11 +19,11 @@ pub enum ExecFault {
     DivideByZero,
     /// The column with this name would get a text of more bytes than it takes.
     TextTooLong(Txt),
-    /// A query has more than 100,000 lines, after LIMIT.
+    /// A query has more lines than an answer may have (`group_exec::limits::MAX_LINES`), after LIMIT.
     ResultTooLong,
-    /// The transaction would have more than 1,024 rows.
+    /// The transaction would have more than [`geo_base::limits::MAX_SET_ROWS`] rows.
     TooManyRows,
-    /// The transaction's spelled changes would have more than 1,048,576 bytes.
+    /// The transaction's spelled changes would have more than [`geo_base::limits::MAX_SET_BYTES`] bytes.
     TooLarge,
     /// There was no memory. It says nothing of the statement.
     NoMemory,

@@ -21,7 +21,7 @@ use Rattle.sql_expr.specs.declared.expr.Expr.TheOpen.{Expr-F}
 use Rattle.sql_expr.specs.declared.expr.Test.{Test}
 use Rattle.sql_expr.specs.declared.expr.Test.TheVariants as test
 use Rattle.sql_plan.specs.Plans.{access_of, equal_cell, first_is, fixed_cells, index_access, index_where, is_bounded, is_fixed, is_left, join_by_links, join_by_parts, join_of, linked_column, part_of, parts_of, plan_of, width}
-use Rattle.sql_plan.specs.Tests.{ColumnTest, Link, column_tests, compared_columns, link_in, links, safe_tests, tests_of}
+use Rattle.sql_plan.specs.Tests.{ColumnTest, Link, column_tests, compared_columns, link_in, links_of, safe_tests, tests_of}
 use Rattle.sql_plan.proofs.Reached.{found}
 
 either_way : {X : Type 0} (R : X → Type 0) (b : Bool) (x y : X) → R x → R y → R (if b then x else y)
@@ -81,8 +81,8 @@ module _ (lefts rights : ℕ) where
   all_between [] = All-nil (IsBetween lefts rights)
   all_between (e ∷ es) = of_level (out-Expr e) (filter_map (λ x. link_in lefts rights (out-Expr x)) es) (all_between es)
 
-  links_between : (tests : List Expr) → All (IsBetween lefts rights) (links lefts rights tests)
-  unfolding links
+  links_between : (tests : List Expr) → All (IsBetween lefts rights) (links_of lefts rights tests)
+  unfolding links_of
   links_between tests = all_between (safe_tests tests)
 
 -- ---- the join
@@ -146,7 +146,7 @@ plan_fits tables (left ∷ right ∷ []) tests some few =
     let y = table_at tables right in
     let ts = tests_of (width x) (width y) (column_tests tests) in (
       access_fits x (tests_of 0 (width x) (column_tests tests)),
-      (access_fits y ts, join_fits x y ts (links (width x) (width y) tests) (links_between (width x) (width y) tests)),
+      (access_fits y ts, join_fits x y ts (links_of (width x) (width y) tests) (links_between (width x) (width y) tests)),
     )
 plan_fits tables (left ∷ right ∷ _ ∷ _) tests some few = absurd (omega arith)
 

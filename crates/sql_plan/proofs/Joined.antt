@@ -24,7 +24,7 @@ use Rattle.sql_expr.specs.declared.expr.Expr.TheViews.{roll-Expr, roll-out-Expr}
 use Rattle.sql_expr.specs.declared.expr.Test.{Test}
 use Rattle.sql_expr.specs.declared.expr.Test.TheVariants as test
 use Rattle.sql_plan.specs.Plans.{access_of, equal_cell, is_left, join_by_links, join_by_parts, join_of, linked_column, part_of, parts_of}
-use Rattle.sql_plan.specs.Tests.{ColumnTest, Link, compared_columns, link_in, link_of, links, safe_tests}
+use Rattle.sql_plan.specs.Tests.{ColumnTest, Link, compared_columns, link_in, link_of, links_of, safe_tests}
 use Rattle.sql_plan.proofs.Passing.{AreCompared, Passes, level_sides, seen_sides, turned_so}
 use Rattle.sql_plan.proofs.Reached.{equal_is, found, is_equal, named, reached}
 use Rattle.sql_plan.proofs.Safe.{IsPassed, value_at}
@@ -122,8 +122,8 @@ module _ (left right : List Cell) (lefts rights : ℕ) (wide : length left ≡ l
   all_tie (e ∷ es) h =
       added e (link_in lefts rights (out-Expr e)) (filter_map (λ x. link_in lefts rights (out-Expr x)) es) (All-head (IsPassed row) e es h) refl (all_tie es (All-tail (IsPassed row) e es h))
 
-  pub links_tie : (tests : List Expr) → All (IsPassed row) (safe_tests tests) → All (Ties left right) (links lefts rights tests)
-  unfolding links
+  pub links_tie : (tests : List Expr) → All (IsPassed row) (safe_tests tests) → All (Ties left right) (links_of lefts rights tests)
+  unfolding links_of
   links_tie tests h = all_tie (safe_tests tests) h
 
 -- ---- the chosen join

@@ -12,7 +12,7 @@ use Rattle.row_source.specs.Sources.{AreRowsOf, Entry, Fits}
 use Rattle.sql_expr.specs.Conditions.{kept}
 use Rattle.sql_expr.specs.declared.expr.Expr.{Expr}
 use Rattle.sql_plan.specs.Plans.{first_access, plan_of, width}
-use Rattle.sql_plan.specs.Tests.{column_tests, links, safe_tests, tests_of}
+use Rattle.sql_plan.specs.Tests.{column_tests, links_of, safe_tests, tests_of}
 use Rattle.sql_plan.proofs.Joined.{joined, links_tie}
 use Rattle.sql_plan.proofs.Passing.{tests_of_pass, tests_pass}
 use Rattle.sql_plan.proofs.Reached.{reached}
@@ -65,7 +65,7 @@ module _ (tables : Tables) (tests : List Expr) where
         (tests_of_pass (a.1 ++ b.1) a.1 0 (width (table_at tables left)) left_same (column_tests tests) passed))
         (joined tables right b fits_b here_b (tests_of (width (table_at tables left)) (width (table_at tables right)) (column_tests tests))
         (tests_of_pass (a.1 ++ b.1) b.1 (width (table_at tables left)) (width (table_at tables right)) right_same (column_tests tests) passed)
-        a.1 (links (width (table_at tables left)) (width (table_at tables right)) tests)
+        a.1 (links_of (width (table_at tables left)) (width (table_at tables right)) tests)
         (links_tie a.1 b.1 (width (table_at tables left)) (width (table_at tables right)) wide tests all))
 
     pub pair_left_out : hands_out tables left right (plan_of tables (left ∷ right ∷ []) tests) a b ≡ false → kept (a.1 ++ b.1) tests ≡ Ok false

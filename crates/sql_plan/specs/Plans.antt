@@ -21,7 +21,7 @@ use Rattle.row_source.specs.declared.plan.Second.{Second}
 use Rattle.sql_expr.specs.declared.expr.Expr.{Expr}
 use Rattle.sql_expr.specs.declared.expr.Test.{Test}
 use Rattle.sql_expr.specs.declared.expr.Test.TheVariants as test
-use Rattle.sql_plan.specs.Tests.{ColumnTest, Link, column_tests, links, tests_of}
+use Rattle.sql_plan.specs.Tests.{ColumnTest, Link, column_tests, links_of, tests_of}
 
 -- ---- tests by what they say of their column
 
@@ -141,17 +141,17 @@ access_of table tests =
 
 -- the left column that the right column is linked to first
 abbrev pub linked_column : List Link → ℕ → Option ℕ
-linked_column ties column = option_map (λ l. l.left) (find (λ l. nat_eq l.right column) ties)
+linked_column links column = option_map (λ l. l.left) (find (λ l. nat_eq l.right column) links)
 
 -- what a column of the right key is equal to: its first equality's literal, and where there is none, the left column of its first link
 abbrev pub part_of : List ColumnTest → List Link → ℕ → Option KeyPart
-part_of tests ties column = option_or (option_map part.Lit (equal_cell tests column)) (option_map part.Left (linked_column ties column))
+part_of tests links column = option_or (option_map part.Lit (equal_cell tests column)) (option_map part.Left (linked_column links column))
 
 -- the parts of all columns of the right key, where each has one
 abbrev pub parts_of : List ColumnTest → List Link → List ℕ → Option (List KeyPart)
-parts_of tests ties [] = Some []
-parts_of tests ties (column ∷ columns) =
-    option_and_then (λ p. option_map (λ ps. p ∷ ps) (parts_of tests ties columns)) (part_of tests ties column)
+parts_of tests links [] = Some []
+parts_of tests links (column ∷ columns) =
+    option_and_then (λ p. option_map (λ ps. p ∷ ps) (parts_of tests links columns)) (part_of tests links column)
 
 -- the part is a column of the left table
 abbrev pub is_left : KeyPart → Bool
@@ -165,12 +165,12 @@ join_by_links (l ∷ _) = join.Hashed l.left l.right
 
 -- by the key, where the parts are there and one of them is a column of the left table
 abbrev pub join_by_parts : List Link → Option (List KeyPart) → JoinKind
-join_by_parts ties (Some parts) = if list_any is_left parts then join.ByKey parts else join_by_links ties
-join_by_parts ties None = join_by_links ties
+join_by_parts links (Some parts) = if list_any is_left parts then join.ByKey parts else join_by_links links
+join_by_parts links None = join_by_links links
 
 -- by the key of the right table, by a link, or each row with each
 unfoldable pub join_of : TableDef → List ColumnTest → List Link → JoinKind
-join_of table tests ties = join_by_parts ties (parts_of tests ties table.key)
+join_of table tests links = join_by_parts links (parts_of tests links table.key)
 
 -- ---- plans
 
@@ -186,7 +186,7 @@ first_access left tests = access_of left (tests_of 0 (width left) (column_tests 
 abbrev pub second_of : TableDef → TableDef → List Expr → Second
 second_of left right tests = record {
   access = access_of right (tests_of (width left) (width right) (column_tests tests));
-  join = join_of right (tests_of (width left) (width right) (column_tests tests)) (links (width left) (width right) tests);
+  join = join_of right (tests_of (width left) (width right) (column_tests tests)) (links_of (width left) (width right) tests);
 }
 
 -- the plan of a statement over one table or two, by its conjuncts

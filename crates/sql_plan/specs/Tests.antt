@@ -110,5 +110,5 @@ link_in lefts rights (Expr-F.Cmp t a b) = compared_columns lefts rights t (out-E
 link_in lefts rights _ = None
 
 -- the usable links, in their order, where the two tables have so many columns
-unfoldable pub links : ℕ → ℕ → List Expr → List Link
-links lefts rights tests = filter_map (λ e. link_in lefts rights (out-Expr e)) (safe_tests tests)
+unfoldable pub links_of : ℕ → ℕ → List Expr → List Link
+links_of lefts rights tests = filter_map (λ e. link_in lefts rights (out-Expr e)) (safe_tests tests)

@@ -7,7 +7,7 @@
 #![tactic(auto)]
 
 mod access;
-mod found;
+mod collecting;
 mod joins;
 mod laws;
 mod lines;

@@ -6,7 +6,7 @@ ghost use Rattle.sql_expr.specs.declared.expr.Expr.{out-Expr};
 ghost use Rattle.sql_plan.specs.Tests as meant;
 ghost use Rattle.sql_plan.specs.inner.Borrowed.{seen_link};
 
-use crate::found::push_some;
+use crate::collecting::push_some;
 use crate::tests::safe_tests;
 use geo_base::NoMemory;
 use sql_expr::{Expr, Test};
@@ -81,15 +81,15 @@ fn links_in(
 }
 
 /// The usable links of two tables, which have so many columns, in their order.
-#[tactic(auto, unfolding(crate::specs::Tests::links))]
-pub(crate) fn links(
+#[tactic(auto, unfolding(crate::specs::Tests::links_of))]
+pub(crate) fn links_of(
     alloc: Global,
     tests: &[Expr],
     lefts: usize,
     rights: usize,
 ) -> Result<Vec<Link>, NoMemory>
     requires { lefts + rights < 65536 }
-    ensures { IfOk result (λ found. map seen_link found.items ≡ meant.links lefts rights tests.now) }
+    ensures { IfOk result (λ found. map seen_link found.items ≡ meant.links_of lefts rights tests.now) }
 {
     Ok(links_in(alloc, safe_tests(tests), lefts, rights)?)
 }

@@ -7,7 +7,7 @@ ghost use Rattle.sql_plan.specs.Plans as plans;
 
 use crate::access::access_of;
 use crate::joins::join_of;
-use crate::links::links;
+use crate::links::links_of;
 use crate::tables::shown_table;
 use crate::tests::column_tests;
 use geo_base::{NoMemory, TableNo};
@@ -38,9 +38,9 @@ fn second_of(
 {
     let (lefts, rights) = (left.columns.items().len(), right.columns.items().len());
     let own = column_tests(alloc, tests, lefts, rights)?;
-    let ties = links(alloc, tests, lefts, rights)?;
+    let links = links_of(alloc, tests, lefts, rights)?;
     let access = access_of(alloc, right, own.as_slice())?;
-    let join = join_of(alloc, right, own.as_slice(), ties.as_slice())?;
+    let join = join_of(alloc, right, own.as_slice(), links.as_slice())?;
     Ok(Second { access, join })
 }
 

@@ -9,7 +9,7 @@ ghost use Rattle.sql_plan.specs.Tests as meant;
 ghost use Rattle.sql_plan.specs.Tests.{tests_of};
 ghost use Rattle.sql_plan.specs.inner.Borrowed.{said_by, seen, test_of};
 
-use crate::found::push_some;
+use crate::collecting::push_some;
 use geo_base::{Cell, NoMemory};
 use sql_expr::{Expr, Test};
 use std::alloc::Global;
