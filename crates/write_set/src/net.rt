@@ -1,5 +1,5 @@
 //! What is left of a transaction's changes.
-ghost use Rattle.std.specs.Prelude.{◌≡◌, IfOk, IfErr, OnOk};
+ghost use Rattle.std.specs.Prelude.{◌≡◌, IfOk, IfErr, OnOk, OnErr};
 ghost use Rattle.write_set.specs.Net.{IsNet, TouchesKnown, HasTouchesOf, IsWithinLimits, HasNetCause};
 ghost use Rattle.write_set.specs.inner.Nets.{made, net_of};
 ghost use Rattle.write_set.specs.Sets.{Rises};
@@ -42,6 +42,20 @@ impl WriteSet {
             return Err(SetFault::TooLarge);
         }
         Ok(set)
+    }
+
+    /// Makes the changes in this set, in their order, as [`WriteSet::with`] says; the set stays as it was
+    /// where that is refused.
+    pub fn apply(&mut self, alloc: Global, changes: Vec<RowChange>) -> Result<(), SetFault>
+        requires { TouchesKnown self.old changes.items }
+        ensures net { OnOk result (IsNet self.old changes.items self.new) }
+        ensures touches { OnOk result (HasTouchesOf self.old changes.items self.new) }
+        ensures within { OnOk result (IsWithinLimits self.new) }
+        ensures fault { IfErr result (HasNetCause self.old changes.items) }
+        ensures stays { OnErr result (self.new ≡ self.old) }
+    {
+        *self = self.with(alloc, changes)?;
+        Ok(())
     }
 }
 
