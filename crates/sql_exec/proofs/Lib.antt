@@ -15,7 +15,6 @@ mod Locks
 mod Removed
 mod Columns
 mod Written
-mod Answered
 mod Inserted
 mod Imaged
 mod Updated

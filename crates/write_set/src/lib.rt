@@ -42,7 +42,7 @@ pub use laws::{
     verdicts_say_who_commits, winner_is_unbeaten,
 };
 pub use plain::Plain;
-pub use row_change::RowChange;
+pub use row_change::{RowChange, RowChangeList};
 pub use session_record::Record;
 pub use set::WriteSet;
 pub use set_fault::SetFault;

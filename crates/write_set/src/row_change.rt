@@ -1,5 +1,5 @@
 use crate::change::Change;
-use geo_base::RowId;
+use geo_base::{Many, RowId};
 
 /// What a transaction does to a row, and whether its snapshot has the row.
 #[derive(Debug, Drop)]
@@ -11,3 +11,6 @@ pub struct RowChange {
     /// What is done to it.
     pub change: Change,
 }
+
+/// Changes, in the order in which they are made.
+pub type RowChangeList = Many<RowChange>;
