@@ -5,6 +5,7 @@ mod Kept
 mod Reached
 mod Shown
 mod Plain
+mod Pointed
 mod Planned
 mod Entries
 mod Touched

@@ -24,7 +24,6 @@ use Rattle.sql_plan.specs.Plans.{plan_of}
 use Rattle.write_set.specs.Overlay.{Table, overlay}
 use Rattle.write_set.specs.Sets.{ChangeOfRow}
 use Rattle.write_set.specs.declared.row_change.RowChange.{RowChange}
-use Rattle.write_set.specs.laws.Nets as nets
 
 abbrev Rows : Type 0
 Rows = List (List Cell)

@@ -23,6 +23,7 @@ mod laws;
 mod lines;
 mod naming;
 mod netting;
+mod pointing;
 mod queries;
 mod reaching;
 mod touching;
