@@ -4,15 +4,17 @@ ghost use Rattle.row_source.specs.Sources.{AreRowsOf};
 ghost use Rattle.sql_bind.specs.Sound.{IsSound, IsSoundSelect};
 ghost use Rattle.sql_bind.specs.Statements as statements;
 ghost use Rattle.write_set.specs.Overlay.{overlay};
+ghost use Rattle.write_set.specs.Sets.{Rises};
 
 use crate::counted::Counted;
-use crate::printing::{print_answer, print_plan};
+use crate::doing::{do_delete, do_insert, do_lock, do_update};
+use crate::printing::{print_answer, print_done, print_plan};
 use geo_base::NoMemory;
 use geo_schema::Schema;
 use row_source::Steps;
 use sql_ast::Statement;
 use sql_bind::{Bound, BoundSelect, bind};
-use sql_exec::{delete, insert, lock, select, update};
+use sql_exec::select;
 use sql_parse::parse;
 use sql_plan::{plan_lines, plan_of};
 use std::alloc::Global;
@@ -44,31 +46,42 @@ fn print_explained(
     print_plan(out, lines?.as_slice())
 }
 
-/// Writes what a bound statement is answered behind the net.
+/// Writes what a bound statement is answered behind the net, in which its changes are made.
 fn print_bound<L: Ledger>(
     out: &mut String,
     alloc: Global,
     schema: &Schema,
     source: &Counted,
-    own: &WriteSet,
+    own: &mut WriteSet,
     bound: &Bound,
     steps: &mut Steps<L>,
 ) -> Result<(), Fail>
     requires sound { IsSound schema.now bound.now }
     requires schema { source.now.list.tables ≡ schema.now }
     requires rows { AreRowsOf schema.now source.now.list.rows }
-    requires laid { source.now.list.rows ≡ overlay source.now.list.base own.now }
+    requires laid { source.now.list.rows ≡ overlay source.now.list.base own.old }
+    requires base { Rises source.now.list.base }
 {
     let printed = match bound {
         Bound::Select(query) if is_plain(query) => {
             print_answer(out, select(alloc, query, source, schema, steps))
         }
         Bound::Lock(query) if is_plain(query) => {
-            print_answer(out, lock(alloc, query, source, own, schema, steps))
+            let done = do_lock(alloc, query, source, own, schema, steps);
+            print_done(out, done, own)
         }
-        Bound::Insert(query) => print_answer(out, insert(alloc, query, source, own, schema)),
-        Bound::Update(query) => print_answer(out, update(alloc, query, source, own, schema, steps)),
-        Bound::Delete(query) => print_answer(out, delete(alloc, query, source, own, schema, steps)),
+        Bound::Insert(query) => {
+            let done = do_insert(alloc, query, source, own, schema);
+            print_done(out, done, own)
+        }
+        Bound::Update(query) => {
+            let done = do_update(alloc, query, source, own, schema, steps);
+            print_done(out, done, own)
+        }
+        Bound::Delete(query) => {
+            let done = do_delete(alloc, query, source, own, schema, steps);
+            print_done(out, done, own)
+        }
         Bound::Explain(query) => print_explained(out, alloc, schema, query),
         _ => return Err("a query of another form".into()),
     };
@@ -92,13 +105,14 @@ fn print_statement<L: Ledger>(
     alloc: Global,
     schema: &Schema,
     source: &Counted,
-    own: &WriteSet,
+    own: &mut WriteSet,
     statement: &Statement,
     steps: &mut Steps<L>,
 ) -> Result<(), Fail>
     requires schema { source.now.list.tables ≡ schema.now }
     requires rows { AreRowsOf schema.now source.now.list.rows }
-    requires laid { source.now.list.rows ≡ overlay source.now.list.base own.now }
+    requires laid { source.now.list.rows ≡ overlay source.now.list.base own.old }
+    requires base { Rises source.now.list.base }
 {
     if !is_of_tables(statement) {
         return Err("no statement of tables".into());
@@ -120,24 +134,24 @@ fn statement_of(alloc: Global, text: &str) -> Result<Statement, Fail> {
     Ok(parse(alloc, text)?)
 }
 
-/// What the statement of a text is answered behind the net of the transaction. It has to be one that writes, a query of one
-/// table without groups and order, or any query that is explained.
-pub fn answer<L: Ledger>(
+/// Writes what the statement of a text is answered behind the net of the transaction, in which its changes are made. It has
+/// to be one that writes, a query of one table without groups and order, or any query that is explained.
+pub fn print_text<L: Ledger>(
+    out: &mut String,
     alloc: Global,
     schema: &Schema,
     source: &Counted,
-    own: &WriteSet,
+    own: &mut WriteSet,
     text: &str,
     steps: &mut Steps<L>,
-) -> Result<String, Fail>
+) -> Result<(), Fail>
     requires schema { source.now.list.tables ≡ schema.now }
     requires rows { AreRowsOf schema.now source.now.list.rows }
-    requires laid { source.now.list.rows ≡ overlay source.now.list.base own.now }
+    requires laid { source.now.list.rows ≡ overlay source.now.list.base own.old }
+    requires base { Rises source.now.list.base }
 {
-    let mut out = String::new(alloc);
     let statement = statement_of(alloc, text)?;
-    let printed = print_statement(&mut out, alloc, schema, source, own, &statement, steps);
+    let printed = print_statement(out, alloc, schema, source, own, &statement, steps);
     drop(statement);
-    printed?;
-    Ok(out)
+    printed
 }

@@ -1,9 +1,10 @@
-//! Lines of statements and of what is wanted of them, played over the tables and rows of texts.
+//! Lines of statements and of what is wanted of the last of each line, played over the tables and rows of texts.
 ghost use Rattle.std.specs.Prelude.{◌≡◌, ◌<◌, IfOk};
 ghost use Rattle.row_source.specs.Sources.{AreRowsOf};
 ghost use Rattle.write_set.specs.Overlay.{overlay};
+ghost use Rattle.write_set.specs.Sets.{Rises};
 
-use crate::asking::answer;
+use crate::asking::print_text;
 use crate::counted::Counted;
 use crate::repeating::repeated;
 use crate::sample::{ROWS, TABLES};
@@ -17,49 +18,6 @@ use std::sync::ledger::{Blank, Ledger};
 use std::test::Fail;
 use write_set::WriteSet;
 
-/// What the line's statement is answered in place of what the line says, if it is.
-fn wrong<L: Ledger>(
-    alloc: Global,
-    schema: &Schema,
-    source: &Counted,
-    own: &WriteSet,
-    line: &str,
-    steps: &mut Steps<L>,
-) -> Result<Option<String>, Fail>
-    requires schema { source.now.list.tables ≡ schema.now }
-    requires rows { AreRowsOf schema.now source.now.list.rows }
-    requires laid { source.now.list.rows ≡ overlay source.now.list.base own.now }
-{
-    let (text, want) = line.split_once(" => ").ok_or("a line without an answer")?;
-    let answer = answer(alloc, schema, source, own, text, steps)?;
-    let count = source.take_count();
-    let found = format!(in alloc; "{count}:{answer}")?;
-    if found.as_str() == want {
-        return Ok(None);
-    }
-    Ok(Some(format!(in alloc; "found {found} in {line}")?))
-}
-
-fn first_wrong_of<L: Ledger>(
-    alloc: Global,
-    schema: &Schema,
-    source: &Counted,
-    own: &WriteSet,
-    lines: &str,
-    steps: &mut Steps<L>,
-) -> Result<Option<String>, Fail>
-    requires schema { source.now.list.tables ≡ schema.now }
-    requires rows { AreRowsOf schema.now source.now.list.rows }
-    requires laid { source.now.list.rows ≡ overlay source.now.list.base own.now }
-{
-    for line in lines.lines() {
-        if let Some(wrong) = wrong(alloc, schema, source, own, line, steps)? {
-            return Ok(Some(wrong));
-        }
-    }
-    Ok(None)
-}
-
 /// The source of the rows with the net laid over them, and which has the rows without it as its base.
 fn source_of<'a>(
     alloc: Global,
@@ -69,6 +27,7 @@ fn source_of<'a>(
 ) -> Result<Counted<'a>, Fail>
     ensures schema { IfOk result (λ source. source.list.tables ≡ schema.entry.now) }
     ensures rows { IfOk result (λ source. AreRowsOf schema.entry.now source.list.rows) }
+    ensures base { IfOk result (λ source. Rises source.list.base) }
     ensures laid { IfOk result (λ source. source.list.rows ≡ overlay source.list.base own.now) }
 {
     let rows = rows_of(alloc, schema, rows)?;
@@ -95,6 +54,77 @@ struct Texts {
     lines: String,
 }
 
+/// Writes what the statement is answered behind the net, in which its changes are made, and answers how many rows it is
+/// handed.
+fn print_next<L: Ledger>(
+    out: &mut String,
+    alloc: Global,
+    schema: &Schema,
+    rows: &str,
+    own: &mut WriteSet,
+    text: &str,
+    steps: &mut Steps<L>,
+) -> Result<usize, Fail> {
+    let source = source_of(alloc, schema, rows, own)?;
+    let printed = print_text(out, alloc, schema, &source, own, text, steps);
+    let count = source.take_count();
+    drop(source);
+    printed?;
+    Ok(count)
+}
+
+/// Writes what the last of the statements is answered, each behind the net that those before it have left, and answers how
+/// many rows it is handed.
+fn print_last<L: Ledger>(
+    out: &mut String,
+    alloc: Global,
+    schema: &Schema,
+    rows: &str,
+    own: &mut WriteSet,
+    statements: &str,
+    steps: &mut Steps<L>,
+) -> Result<usize, Fail> {
+    let mut count = 0;
+    for text in statements.split(';') {
+        out.clear();
+        count = print_next(out, alloc, schema, rows, own, text, steps)?;
+    }
+    Ok(count)
+}
+
+/// What the last statement of the line is answered, and in front of it how many rows it is handed.
+fn answer<L: Ledger>(
+    alloc: Global,
+    schema: &Schema,
+    texts: &Texts,
+    statements: &str,
+    steps: &mut Steps<L>,
+) -> Result<String, Fail> {
+    let mut out = String::new(alloc);
+    let mut own = net_of(alloc, schema, texts.net.as_str())?;
+    let rows = texts.rows.as_str();
+    let count = print_last(&mut out, alloc, schema, rows, &mut own, statements, steps);
+    drop(own);
+    let count = count?;
+    Ok(format!(in alloc; "{count}:{out}")?)
+}
+
+/// What the line is answered in place of what it says, if it is.
+fn wrong<L: Ledger>(
+    alloc: Global,
+    schema: &Schema,
+    texts: &Texts,
+    line: &str,
+    steps: &mut Steps<L>,
+) -> Result<Option<String>, Fail> {
+    let (statements, want) = line.split_once(" => ").ok_or("a line without an answer")?;
+    let found = answer(alloc, schema, texts, statements, steps)?;
+    if found.as_str() == want {
+        return Ok(None);
+    }
+    Ok(Some(format!(in alloc; "found {found} in {line}")?))
+}
+
 /// The first line that is wrong over the schema.
 fn first_wrong_over<L: Ledger>(
     alloc: Global,
@@ -102,12 +132,12 @@ fn first_wrong_over<L: Ledger>(
     texts: &Texts,
     steps: &mut Steps<L>,
 ) -> Result<Option<String>, Fail> {
-    let own = net_of(alloc, schema, texts.net.as_str())?;
-    let source = source_of(alloc, schema, texts.rows.as_str(), &own)?;
-    let found = first_wrong_of(alloc, schema, &source, &own, texts.lines.as_str(), steps);
-    drop(source);
-    drop(own);
-    found
+    for line in texts.lines.lines() {
+        if let Some(wrong) = wrong(alloc, schema, texts, line, steps)? {
+            return Ok(Some(wrong));
+        }
+    }
+    Ok(None)
 }
 
 fn first_wrong_on<L: Ledger>(
@@ -126,9 +156,10 @@ fn first_wrong_on<L: Ledger>(
     found
 }
 
-/// The first line whose statement isn't answered as it says, behind what it is answered. Each line has a statement, an
-/// arrow, how many rows it is handed, a colon, and its lines, its plan or its fault; or how many rows it has changed, and
-/// the net behind it.
+/// The first line that isn't answered as it says, behind what it is answered. Each line has a statement, or several with a
+/// semicolon between them, which one transaction does one after another; an arrow, how many rows the last of them is
+/// handed, a colon, and its lines, its plan or its fault; or how many rows it has changed, a semicolon, and the net behind
+/// it.
 pub fn first_wrong(
     alloc: Global,
     tables: &str,

@@ -1,7 +1,7 @@
 //! What statements are answered, as texts, each behind a space.
 use geo_base::{NoMemory, RowId, Txt, print_row};
 use row_source::ExecFault;
-use sql_exec::{Effect, LineList, Locked};
+use sql_exec::LineList;
 use write_set::{Change, WriteSet};
 
 /// More lines, or more rows of a net, are told by their number.
@@ -76,20 +76,10 @@ impl Print for WriteSet {
     }
 }
 
-impl Print for Locked {
-    /// The lines, a semicolon and the net.
+impl Print for u32 {
+    /// How many rows are changed.
     fn print(&self, out: &mut String) -> Result<(), NoMemory> {
-        self.lines.print(out)?;
-        out.push_str(";")?;
-        self.own.print(out)
-    }
-}
-
-impl Print for Effect {
-    /// How many rows are changed, a semicolon and the net.
-    fn print(&self, out: &mut String) -> Result<(), NoMemory> {
-        print_number(out, u64::from(self.changed), ";")?;
-        self.own.print(out)
+        print_number(out, u64::from(*self), "")
     }
 }
 
@@ -132,6 +122,21 @@ pub fn print_answer<T: Print + Drop>(
     };
     drop(answer);
     printed
+}
+
+/// Writes an answer, and behind a semicolon the net after it; or a fault.
+pub fn print_done<T: Print + Drop>(
+    out: &mut String,
+    answer: Result<T, ExecFault>,
+    own: &WriteSet,
+) -> Result<(), NoMemory> {
+    let done = answer.is_ok();
+    print_answer(out, answer)?;
+    if done {
+        out.push_str(";")?;
+        own.print(out)?;
+    }
+    Ok(())
 }
 
 /// Writes the lines of a plan, each behind a bar.

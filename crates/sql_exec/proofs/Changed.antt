@@ -1,7 +1,6 @@
--- How many rows a statement changes that puts and removes rows, each once: at most as many as the net before it has and the
--- net after it.
+-- How many rows are changed by changes that a net may take: at most as many as the net before them has and the net after them.
 use Rattle.std.proofs.Common.{◌≡◌, ◌+◌, ◌^◌, ◌<◌, ◌≤◌, Bool, true, false, ◌||◌, cond, Option, List, [], ◌∷◌, ◌++◌, length, map, refl, sym, ap, subst, ◌∙◌, arith}
-use Rattle.std.specs.List.{All, IsDistinct, list_any}
+use Rattle.std.specs.List.{All, list_any}
 use Rattle.std.specs.Map.{keys_of}
 use Rattle.std.specs.Option.{is_some}
 use Rattle.std.specs.Set.{is_member}
@@ -14,8 +13,8 @@ use Rattle.geo_base.specs.declared.row_id.RowId.{RowId}
 use Rattle.geo_base.specs.Order.{row_eq}
 use Rattle.geo_base.specs.laws.Orders.{row_eq_equiv}
 use Rattle.sql_exec.proofs.Touched.{has_row_found}
+use Rattle.sql_exec.specs.Changes.{CanBeApplied, MayChange}
 use Rattle.sql_exec.specs.Effects.{IsNetAfter}
-use Rattle.sql_exec.specs.inner.Making.{MayBeMade, MayChange}
 use Rattle.write_set.specs.Bounds.{AreFewRows}
 use Rattle.write_set.specs.Net.{IsNet, TouchesKnown, change_in, left_by, left_of}
 use Rattle.write_set.specs.Sets.{ChangeOfRow, has_row}
@@ -25,17 +24,17 @@ use Rattle.write_set.specs.declared.row_change.RowChange.{RowChange}
 use Rattle.write_set.specs.laws.Nets.{touches_known}
 use Rattle.write_set.specs.laws.Rivals.{row_same}
 
--- none of them is a touch
-no_touch : (held before : Bool) (change : Change) → MayChange held before change → change ≡ Touch → before ≡ true
-no_touch held before (Put image) may is = absurd cc
-no_touch held before Remove may is = absurd cc
-no_touch held before Touch may is = absurd may
+-- one that touches its row says that the snapshot has it
+known : (held before : Bool) (change : Change) → MayChange held before change → change ≡ Touch → before ≡ true
+known held before (Put image) may is = absurd cc
+known held before Remove may is = absurd cc
+known held before Touch may is = may
 
-pub made_known : (own : List ChangeOfRow) (changes : List RowChange) → MayBeMade own changes → TouchesKnown own changes
-made_known own changes altering =
+pub made_known : (own : List ChangeOfRow) (changes : List RowChange) → CanBeApplied own changes → TouchesKnown own changes
+made_known own changes can =
     touches_known own changes
     (All-weaker (λ (c : RowChange). MayChange (has_row c.row own) c.before c.change) (λ (c : RowChange). c.change ≡ Touch → c.before ≡ true)
-    (λ c may. no_touch (has_row c.row own) c.before c.change may) changes altering)
+    (λ c may. known (has_row c.row own) c.before c.change may) changes can.each)
 
 -- ---- of a row that is changed and that the net before lacks the net after has something
 
@@ -44,7 +43,7 @@ made_left held before (Put image) left none may = refl
 made_left held true Remove left none may = refl
 made_left true false Remove left none may = absurd (false≢true (sym none))
 made_left false false Remove left none may = absurd (false≢true may)
-made_left held before Touch left none may = absurd may
+made_left held before Touch left none may = refl
 
 module _ (own : List ChangeOfRow) where
   abbrev May : RowChange → Type 0
@@ -86,24 +85,22 @@ either : (a b : Bool) → b ≡ true → (a || b) ≡ true
 either true b is = refl
 either false b is = is
 
-in_either : (own net : List ChangeOfRow) (changes : List RowChange) → MayBeMade own changes → IsNet own changes net →
+in_either : (own net : List ChangeOfRow) (changes : List RowChange) → CanBeApplied own changes → IsNet own changes net →
     (row : RowId) → is_member row_eq (map (λ c. c.row) changes) row ≡ true → is_member row_eq (keys_of own ++ keys_of net) row ≡ true
-in_either own net changes all is row member =
+in_either own net changes can is row member =
     list_any-append (row_eq row) (keys_of own) (keys_of net) ∙ by (has_row row own) refl
   where
     by : (b : Bool) → has_row row own ≡ b → (list_any (row_eq row) (keys_of own) || list_any (row_eq row) (keys_of net)) ≡ true
     by true has = ap (λ (b : Bool). b || list_any (row_eq row) (keys_of net)) (has_key row own ∙ has)
     by false none =
         either (list_any (row_eq row) (keys_of own)) (list_any (row_eq row) (keys_of net))
-        (has_key row net ∙ sym (has_row_found row net) ∙ ap (λ (c : Option Change). is_some c) (is.rows row) ∙ found own changes row (change_in own row) all none member)
+        (has_key row net ∙ sym (has_row_found row net) ∙ ap (λ (c : Option Change). is_some c) (is.rows row) ∙ found own changes row (change_in own row) can.each none member)
 
-few_changes : (own net : List ChangeOfRow) (changes : List RowChange) → MayBeMade own changes → IsDistinct row_eq (map (λ c. c.row) changes) → IsNet own changes net →
-    length changes ≤ length own + length net
-few_changes own net changes altering once is =
+few_changes : (own net : List ChangeOfRow) (changes : List RowChange) → CanBeApplied own changes → IsNet own changes net → length changes ≤ length own + length net
+few_changes own net changes can is =
     let few : length (map (λ (c : RowChange). c.row) changes) ≤ length (keys_of own ++ keys_of net) =
-    length-le_from_is_member row_eq_equiv (map (λ (c : RowChange). c.row) changes) (keys_of own ++ keys_of net) once (in_either own net changes altering is) in
+    length-le_from_is_member row_eq_equiv (map (λ (c : RowChange). c.row) changes) (keys_of own ++ keys_of net) can.once (in_either own net changes can is) in
     omega (arith, few, length-map changes (λ (c : RowChange). c.row), length-append (keys_of own) (keys_of net), length-map own (λ (p : ChangeOfRow). p.0), length-map net (λ (p : ChangeOfRow). p.0))
 
-pub countable : (own net : List ChangeOfRow) (changes : List RowChange) → AreFewRows (length own) → MayBeMade own changes → IsDistinct row_eq (map (λ c. c.row) changes) →
-    IsNetAfter own changes net → length changes < 2 ^ 32
-countable own net changes before altering once after = omega (arith, few_changes own net changes altering once after.is_net, before, after.within.few)
+pub countable : (own net : List ChangeOfRow) (changes : List RowChange) → AreFewRows (length own) → CanBeApplied own changes → IsNetAfter own changes net → length changes < 2 ^ 32
+countable own net changes before can after = omega (arith, few_changes own net changes can after.is_net, before, after.within.few)

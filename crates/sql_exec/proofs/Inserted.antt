@@ -1,12 +1,9 @@
 -- The change of a new row behind those of the rows before it.
-use Rattle.std.proofs.Common.{◌≡◌, Bool, true, false, ◌||◌, cond, if◌then◌else◌, Option, Result, Ok, Err, List, [], ◌∷◌, ◌++◌, map, refl, sym, ap, subst, ◌∙◌}
+use Rattle.std.proofs.Common.{◌≡◌, Bool, true, false, ◌||◌, cond, if◌then◌else◌, Option, Result, Ok, Err, List, [], ◌∷◌, ◌++◌, refl, sym, ap, ◌∙◌}
 use Rattle.std.specs.BTreeMap.{is_at}
-use Rattle.std.specs.List.{All, IsDistinct, list_any}
+use Rattle.std.specs.List.{list_any}
 use Rattle.std.specs.Option.{is_some}
-use Rattle.std.proofs.lemmas.List.{map-append}
-use Rattle.std.proofs.lemmas.List.Elements.{All-nil, All-push}
 use Rattle.std.proofs.lemmas.List.Folds.{list_any-append}
-use Rattle.std.proofs.lemmas.Map.Keys.{IsDistinct-push}
 use Rattle.geo_base.specs.declared.cell.Cell.{Cell}
 use Rattle.geo_base.specs.declared.row_id.RowId.{RowId}
 use Rattle.geo_base.specs.declared.row_image.RowImage.{RowImage}
@@ -17,13 +14,11 @@ use Rattle.geo_schema.specs.Schemas.{Tables, table_at}
 use Rattle.row_source.specs.Matches.{value}
 use Rattle.row_source.specs.declared.fault.ExecFault.{ExecFault}
 use Rattle.row_source.specs.declared.fault.ExecFault.TheVariants as fault
-use Rattle.sql_bind.specs.Steps.{each, each_behind}
+use Rattle.sql_bind.specs.Steps.{each}
 use Rattle.sql_bind.specs.declared.bound.BoundInsert.{BoundInsert}
 use Rattle.sql_bind.specs.declared.bound.ExprRow.{ExprRow}
-use Rattle.sql_exec.proofs.Answered.{IsPut, puts_made}
-use Rattle.sql_exec.specs.Effects.{change_of, fitting, insert_changes, insert_one, inserted_cells, inserted_row}
+use Rattle.sql_exec.specs.Effects.{change_of, fitting, insert_one, inserted_cells, inserted_row}
 use Rattle.sql_exec.specs.inner.Inserting.{AreNamesOf, has_name, new_image, new_row}
-use Rattle.sql_exec.specs.inner.Making.{MayBeMade}
 use Rattle.sql_exec.specs.inner.Naming.{name_in}
 use Rattle.write_set.specs.Net.{change_in}
 use Rattle.write_set.specs.Overlay.{Table, image_in, overlay}
@@ -141,69 +136,3 @@ module _ (tables : Tables) (insert : BoundInsert) (base : Table) (own : List Cha
       image_first
       ∙ ap (λ (r : Result (List Cell) ExecFault). r >>= λ x. inserted_row base own done (name_in tables insert.table x) x) is
       ∙ ap (λ (n : RowId). inserted_row base own done n cells) (sym named)
-
--- ---- what the changes are
-
--- changes that put rows, each once
-record ArePuts (changes : List RowChange) : Type 0 where
-  puts : All IsPut changes
-  once : IsDistinct row_eq (map (λ c. c.row) changes)
-
-any_row : (row : RowId) (changes : List RowChange) → list_any (λ c. row_eq row c.row) changes ≡ list_any (row_eq row) (map (λ c. c.row) changes)
-any_row row [] = refl
-any_row row (c ∷ changes) = ap (λ (b : Bool). row_eq row c.row || b) (any_row row changes)
-
-one_put : (done : List RowChange) (c : RowChange) → ArePuts done → IsPut c → list_any (λ x. row_eq c.row x.row) done ≡ false → ArePuts (done ++ c ∷ [])
-one_put done c are put new =
-    record {
-      puts = All-push IsPut done c are.puts put;
-      once =
-          subst (IsDistinct row_eq) (sym (map-append (λ (x : RowChange). x.row) done (c ∷ [])))
-          (IsDistinct-push row_eq_equiv (map (λ x. x.row) done) c.row are.once (sym (any_row c.row done) ∙ new));
-    }
-
-none_put : ArePuts []
-unfolding IsDistinct
-none_put = record { puts = All-nil IsPut; once = tt }
-
-module _ (tables : Tables) (insert : BoundInsert) (base : Table) (own : List ChangeOfRow) where
-  row_put : (done : List RowChange) (row : RowId) (cells : List Cell) (c : RowChange) → inserted_row base own done row cells ≡ Ok c → ArePuts done → ArePuts (done ++ c ∷ [])
-  row_put done row cells c made are = by (is_some (image_in (overlay base own) row)) (list_any (λ x. row_eq row x.row) done) refl made
-    where
-      by : (a b : Bool) → list_any (λ x. row_eq row x.row) done ≡ b →
-          (let m : Made = if a || b then Err (fault.Duplicate row) else Ok (change_of base row (Put cells)) in m) ≡ Ok c → ArePuts (done ++ c ∷ [])
-      by true b is e = absurd cc
-      by false true is e = absurd cc
-      by false false is e =
-          let same : change_of base row (Put cells) ≡ c = cc in
-          subst (λ (x : RowChange). ArePuts (done ++ x ∷ [])) same (one_put done (change_of base row (Put cells)) are (cells, refl) is)
-
-  one_done : (done : List RowChange) (row : ExprRow) (c : RowChange) → insert_one tables insert base own done row ≡ Ok c → ArePuts done → ArePuts (done ++ c ∷ [])
-  one_done done row c made are = by (new_image tables insert row) refl
-    where
-      by : (r : Result (List Cell) ExecFault) → new_image tables insert row ≡ r → ArePuts (done ++ c ∷ [])
-      by (Err e) is = let stops : insert_one tables insert base own done row ≡ Err e = image_fault tables insert base own done row e is in absurd cc
-      by (Ok cells) is =
-          row_put done (name_in tables insert.table cells) cells c
-          (sym (image_made tables insert base own done row cells (name_in tables insert.table cells) is refl) ∙ made) are
-
-  all_done : (done : List RowChange) (rows : List ExprRow) (changes : List RowChange) → each_behind (insert_one tables insert base own) done rows ≡ Ok changes →
-      ArePuts done → ArePuts changes
-  all_done done [] changes made are = subst ArePuts (let e : done ≡ changes = cc in e) are
-  all_done done (row ∷ rows) changes made are =
-      by (insert_one tables insert base own done row) refl made (λ c more. all_done (done ++ c ∷ []) rows changes more)
-    where
-      by : (r : Made) → insert_one tables insert base own done row ≡ r → (r >>= λ next. each_behind (insert_one tables insert base own) (done ++ next ∷ []) rows) ≡ Ok changes →
-          ((c : RowChange) → each_behind (insert_one tables insert base own) (done ++ c ∷ []) rows ≡ Ok changes → ArePuts (done ++ c ∷ []) → ArePuts changes) → ArePuts changes
-      by (Err e) is more rest = absurd cc
-      by (Ok c) is more rest = rest c more (one_done done row c is are)
-
-  inserts_put : (changes : List RowChange) → insert_changes tables insert base own ≡ Ok changes → ArePuts changes
-  unfolding insert_changes
-  inserts_put changes made = all_done [] insert.rows changes made none_put
-
-  pub inserts_made : (net : List ChangeOfRow) (changes : List RowChange) → insert_changes tables insert base own ≡ Ok changes → MayBeMade net changes
-  inserts_made net changes made = puts_made net changes (inserts_put changes made).puts
-
-  pub inserts_once : (changes : List RowChange) → insert_changes tables insert base own ≡ Ok changes → IsDistinct row_eq (map (λ c. c.row) changes)
-  inserts_once changes made = (inserts_put changes made).once

@@ -5,6 +5,7 @@ mod Kept
 mod Reached
 mod Shown
 mod Plain
+mod Pointed
 mod Planned
 mod Entries
 mod Touched
@@ -15,7 +16,6 @@ mod Locks
 mod Removed
 mod Columns
 mod Written
-mod Answered
 mod Inserted
 mod Imaged
 mod Updated

@@ -1,13 +1,10 @@
 -- What a DELETE makes of the rows that are handed out, and by a plan of all of them.
-use Rattle.std.proofs.Common.{◌≡◌, ◌⊎◌, inl, inr, ℕ, ◌+◌, ◌<◌, Bool, true, false, ◌||◌, get_or, length, take, Result, Ok, Err, List, [], ◌∷◌, ◌++◌, map, refl, sym, ap, subst, ◌∙◌}
-use Rattle.std.specs.List.{All, IsDistinct, filter}
-use Rattle.std.specs.Option.{is_some}
+use Rattle.std.proofs.Common.{◌≡◌, inl, inr, ℕ, ◌+◌, ◌<◌, false, get_or, length, take, Result, Ok, Err, List, [], ◌∷◌, ◌++◌, map, refl, sym, ap, subst, ◌∙◌}
+use Rattle.std.specs.List.{filter}
 use Rattle.std.proofs.lemmas.List.{map-append}
-use Rattle.std.proofs.lemmas.List.Elements.{All-cons, All-head, All-nil, All-tail}
 use Rattle.geo_base.specs.Results.{◌>>=◌, Fails}
 use Rattle.geo_base.specs.declared.cell.Cell.{Cell}
 use Rattle.geo_base.specs.declared.row_id.RowId.{RowId}
-use Rattle.geo_base.specs.Order.{row_eq}
 use Rattle.geo_schema.specs.Schemas.{Tables}
 use Rattle.row_source.specs.Handing.{LeavesOut, reaches}
 use Rattle.row_source.specs.Matches.{kept_of}
@@ -18,18 +15,15 @@ use Rattle.row_source.specs.declared.plan.Plan.{Plan}
 use Rattle.sql_bind.specs.declared.bound.BoundDelete.{BoundDelete}
 use Rattle.sql_exec.proofs.ByPlan.{entries_kept, entries_named}
 use Rattle.sql_exec.proofs.Entries.{cells_of}
-use Rattle.sql_exec.proofs.Handed.{in_base, names_found}
 use Rattle.sql_exec.proofs.Touched.{next_name}
-use Rattle.sql_exec.specs.Effects.{IsRefused, change_of, delete_changes}
-use Rattle.sql_exec.specs.inner.Handed.{AreHanded}
-use Rattle.sql_exec.specs.inner.Making.{MayBeMade, MayChange}
+use Rattle.sql_exec.specs.Effects.{change_of, delete_changes}
 use Rattle.sql_exec.specs.inner.Naming.{name_in}
 use Rattle.sql_exec.specs.inner.Plain.{kept_rows}
 use Rattle.sql_exec.specs.inner.Removing.{removals_by, removed_rows}
 use Rattle.sql_expr.specs.Conditions.{kept}
 use Rattle.sql_plan.specs.Plans.{plan_of}
-use Rattle.write_set.specs.Overlay.{Table, image_in, overlay}
-use Rattle.write_set.specs.Sets.{ChangeOfRow, Rises, has_row}
+use Rattle.write_set.specs.Overlay.{Table, overlay}
+use Rattle.write_set.specs.Sets.{ChangeOfRow}
 use Rattle.write_set.specs.declared.change.Change.TheVariants.{Remove}
 use Rattle.write_set.specs.declared.row_change.RowChange.{RowChange}
 
@@ -51,57 +45,20 @@ module _ {A : Type 0} (cells : A → List Cell) where
       (after ∙ ap (λ (l : List RowChange). l ++ removal ∷ []) before
       ∙ ap (λ (c : RowChange). map (λ (r : RowId). change_of base r Remove) (map name (map cells (take i rows))) ++ c ∷ []) (removes ∙ ap (λ (n : RowId). change_of base n Remove) is))
 
--- ---- which changes they are
-
--- each row that is handed out is removed from the net or from the base
-may_be_made : (base : Table) (own : List ChangeOfRow) → Rises base → Rises own → (names : List RowId) →
-    All (λ row. is_some (image_in (overlay base own) row) ≡ true) names → MayBeMade own (removals_by base names)
-unfolding removals_by
-may_be_made base own rises net [] there = All-nil (λ (c : RowChange). MayChange (has_row c.row own) c.before c.change)
-may_be_made base own rises net (row ∷ names) there =
-    All-cons (λ (c : RowChange). MayChange (has_row c.row own) c.before c.change) (change_of base row Remove) (map (λ (r : RowId). change_of base r Remove) names)
-    (by (has_row row own) refl)
-    (may_be_made base own rises net names (All-tail (λ (r : RowId). is_some (image_in (overlay base own) r) ≡ true) row names there))
-  where
-    by : (b : Bool) → has_row row own ≡ b → (has_row row own || is_some (image_in base row)) ≡ true
-    by true has = rw has refl
-    by false lacks = rw lacks (in_base base own rises net row lacks (All-head (λ (r : RowId). is_some (image_in (overlay base own) r) ≡ true) row names there))
-
-pub altering : (tables : Tables) (number : ℕ) (base rows : Table) (own : List ChangeOfRow) (some : List (List Cell)) (removals : List RowChange) →
-    rows ≡ overlay base own → Rises own → AreHanded tables number rows some → (removals ≡ []) ⊎ Rises base →
-    removals ≡ removals_by base (map (name_in tables number) some) → MayBeMade own removals
-altering tables number base rows own some removals laid net handed (inl nothing) are =
-    subst (MayBeMade own) (sym nothing) (All-nil (λ (c : RowChange). MayChange (has_row c.row own) c.before c.change))
-altering tables number base rows own some removals laid net handed (inr rises) are =
-    subst (MayBeMade own) (sym are)
-    (may_be_made base own rises net (map (name_in tables number) some)
-    (subst (λ (t : Table). All (λ (row : RowId). is_some (image_in t row) ≡ true) (map (name_in tables number) some)) laid (names_found tables number rows some handed)))
-
-rows_of : (base : Table) (names : List RowId) → names ≡ map (λ c. c.row) (removals_by base names)
-unfolding removals_by
-rows_of base [] = refl
-rows_of base (row ∷ names) = ap (λ (more : List RowId). row ∷ more) (rows_of base names)
-
--- and each but once
-pub once : (tables : Tables) (number : ℕ) (base rows : Table) (some : List (List Cell)) (removals : List RowChange) → AreHanded tables number rows some →
-    removals ≡ removals_by base (map (name_in tables number) some) → IsDistinct row_eq (map (λ c. c.row) removals)
-once tables number base rows some removals handed are =
-    subst (IsDistinct row_eq) (rows_of base (map (name_in tables number) some) ∙ ap (map (λ (c : RowChange). c.row)) (sym are)) handed.once
-
 -- ---- its steps
 
 abbrev Made : Type 0
 Made = Result (List RowChange) ExecFault
 
-module _ (tables : Tables) (base : Table) (own : List ChangeOfRow) (delete : BoundDelete) (handed : List (List Cell)) where
+module _ (tables : Tables) (base : Table) (delete : BoundDelete) (handed : List (List Cell)) where
   -- a condition has a fault
   fault_of : (e : ExecFault) → kept_rows delete.tests handed ≡ Err e → removed_rows tables base delete handed ≡ Err e
   unfolding removed_rows
   fault_of e is = rw is refl
 
-  pub kept_refused : (e : ExecFault) → Fails fault.NoMemory e (kept_rows delete.tests handed) → (e ≡ fault.NoMemory) ⊎ IsRefused own (removed_rows tables base delete handed) e
-  kept_refused e (inl lost) = inl lost
-  kept_refused e (inr is) = inr (subst (λ (made : Made). IsRefused own made e) (sym (fault_of e is)) refl)
+  pub kept_fails : (e : ExecFault) → Fails fault.NoMemory e (kept_rows delete.tests handed) → Fails fault.NoMemory e (removed_rows tables base delete handed)
+  kept_fails e (inl lost) = inl lost
+  kept_fails e (inr is) = inr (fault_of e is)
 
   -- there is none
   pub removed : (some : List (List Cell)) (removals : List RowChange) → kept_rows delete.tests handed ≡ Ok some →

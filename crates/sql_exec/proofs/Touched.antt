@@ -1,5 +1,5 @@
 -- Which rows a net has, and the touches of those that it lacks.
-use Rattle.std.proofs.Common.{◌≡◌, ℕ, ◌+◌, ◌<◌, get_or, length, take, true, false, not, List, [], ◌∷◌, ◌++◌, map, inl, inr, ◌⊎◌, refl, sym, ap, subst, ◌∙◌, arith}
+use Rattle.std.proofs.Common.{◌≡◌, ℕ, ◌+◌, ◌<◌, get_or, length, take, true, false, not, List, [], ◌∷◌, ◌++◌, map, refl, sym, ap, subst, ◌∙◌, arith}
 use Rattle.std.specs.List.{All, filter}
 use Rattle.std.specs.Option.{is_some}
 use Rattle.std.proofs.Math.ListN.{get_or-map}
@@ -45,12 +45,6 @@ unfolding touches_by
 one_more base own names others =
     rw (filter-append (λ (row : RowId). not (has_row row own)) names others)
     (map-append (λ (row : RowId). change_of base row Touch) (filter (λ row. not (has_row row own)) names) (filter (λ row. not (has_row row own)) others))
-
--- no change, or what is known besides; and one change more at most
-pub still : {P : Type 0} (old more : List RowChange) → (old ≡ []) ⊎ P → (more ≡ old) ⊎ P → (more ≡ []) ⊎ P
-still old more (inr p) now = inr p
-still old more (inl none) (inr p) = inr p
-still old more (inl none) (inl same) = inl (same ∙ none)
 
 -- ---- the loop, over anything that has cells
 

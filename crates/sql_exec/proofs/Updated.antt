@@ -1,16 +1,12 @@
 -- The changes of an UPDATE: row by row over the rows that the plan hands out, and over all rows of the table.
 use Rattle.std.proofs.Common.{◌≡◌, inl, inr, ℕ, ◌+◌, ◌<◌, ◌≤◌, Bool, true, false, if◌then◌else◌, nat_eq, Result, Ok, Err, List, [], ◌∷◌, ◌++◌, drop, get_or, length, map, refl, sym, ap, subst, ◌∙◌, append_assoc}
-use Rattle.std.specs.List.{All, AllByRecursion, Contains, IsDistinct, filter}
-use Rattle.std.specs.Map.{keys_of}
+use Rattle.std.specs.List.{All, Contains, filter}
 use Rattle.std.specs.Option.{is_some}
 use Rattle.std.proofs.lemmas.Bool.{both_ways}
 use Rattle.std.proofs.lemmas.List.{append-nil, drop_all, drop_more}
-use Rattle.std.proofs.lemmas.List.Elements.{All-cons, All-head, All-nil, All-tail, All-weaker}
-use Rattle.std.proofs.lemmas.Map.Keys.{IsDistinct-from_sorted}
-use Rattle.std.proofs.lemmas.Map.Made.{IsDistinct-keys_filter}
+use Rattle.std.proofs.lemmas.List.Elements.{All-head, All-tail, All-weaker}
 use Rattle.geo_base.specs.declared.cell.Cell.{Cell}
 use Rattle.geo_base.specs.declared.row_id.RowId.{RowId}
-use Rattle.geo_base.specs.Order.{row_cmp, row_eq}
 use Rattle.geo_base.specs.Results.{◌>>=◌, Fails}
 use Rattle.geo_schema.specs.Schemas.{Tables, table_at}
 use Rattle.row_source.specs.Handing.{LeavesOut, reaches}
@@ -21,11 +17,9 @@ use Rattle.row_source.specs.declared.fault.ExecFault.TheVariants as fault
 use Rattle.row_source.specs.declared.plan.Plan.{Plan}
 use Rattle.sql_bind.specs.Steps.{each}
 use Rattle.sql_bind.specs.declared.bound.BoundUpdate.{BoundUpdate}
-use Rattle.sql_exec.proofs.Answered.{IsPut, puts_made}
 use Rattle.sql_exec.proofs.Entries.{IsNamed, all_named}
 use Rattle.sql_exec.proofs.Planned.{behind, head, left_out, of_its_table}
 use Rattle.sql_exec.specs.Effects.{change_of, fitting, update_changes, update_one, updates_of, with_set}
-use Rattle.sql_exec.specs.inner.Making.{MayBeMade}
 use Rattle.sql_exec.specs.inner.Naming.{name_in}
 use Rattle.sql_exec.specs.inner.Updating.{row_updates, set_image, update_row, updates_behind}
 use Rattle.sql_expr.specs.Conditions.{kept}
@@ -33,7 +27,7 @@ use Rattle.sql_expr.specs.declared.expr.Expr.{Expr}
 use Rattle.write_set.specs.declared.change.Change.TheVariants.{Put}
 use Rattle.write_set.specs.declared.row_change.RowChange.{RowChange}
 use Rattle.write_set.specs.Overlay.{Table, image_in, overlay}
-use Rattle.write_set.specs.Sets.{ChangeOfRow, Rises}
+use Rattle.write_set.specs.Sets.{ChangeOfRow}
 
 abbrev Changes : Type 0
 Changes = Result (List RowChange) ExecFault
@@ -176,67 +170,6 @@ module _ (tests : List Expr) (make : Entry → Result RowChange ExecFault) where
           rw (is, has, out) (rest ∙ sym (again (updates_of tests make (filter q rows))))
       by false is false has rest = rw (is, has) rest
 
-  -- ---- what the changes are
-
-  -- what holds of each row that there is holds of each that is changed
-  among : (P : RowId → Type 0) (rows : Table) (changes : List RowChange) → ((entry : Entry) (c : RowChange) → make entry ≡ Ok c → c.row ≡ entry.0) →
-      updates_of tests make rows ≡ Ok changes → AllByRecursion P (keys_of rows) → AllByRecursion P (map (λ c. c.row) changes)
-  among P [] changes names made all = subst (λ (l : List RowChange). AllByRecursion P (map (λ c. c.row) l)) (let e : [] ≡ changes = cc in e) tt
-  among P (entry ∷ rows) changes names made all =
-      by (in_statement (kept entry.1 tests)) (make entry) refl (updates_of tests make rows) made (λ more is. among P rows more names is all.1)
-    where
-      by : (test : Result Bool ExecFault) (one : Result RowChange ExecFault) → make entry ≡ one → (rest : Changes) →
-          (test >>= λ passes. (if passes then (one >>= λ c. Ok (c ∷ [])) else Ok []) >>= λ some. rest >>= λ more. Ok (some ++ more)) ≡ Ok changes →
-          ((more : List RowChange) → rest ≡ Ok more → AllByRecursion P (map (λ c. c.row) more)) → AllByRecursion P (map (λ c. c.row) changes)
-      by (Err e) one is rest so later = absurd cc
-      by (Ok true) (Err e) is rest so later = absurd cc
-      by (Ok true) (Ok c) is (Err e) so later = absurd cc
-      by (Ok true) (Ok c) is (Ok more) so later =
-          subst (λ (l : List RowChange). AllByRecursion P (map (λ x. x.row) l)) (let e : c ∷ more ≡ changes = cc in e) (subst P (sym (names entry c is)) all.0, later more refl)
-      by (Ok false) one is (Err e) so later = absurd cc
-      by (Ok false) one is (Ok more) so later = subst (λ (l : List RowChange). AllByRecursion P (map (λ x. x.row) l)) (let e : more ≡ changes = cc in e) (later more refl)
-
-  pub once_of : (rows : Table) (changes : List RowChange) → ((entry : Entry) (c : RowChange) → make entry ≡ Ok c → c.row ≡ entry.0) →
-      updates_of tests make rows ≡ Ok changes → IsDistinct row_eq (keys_of rows) → IsDistinct row_eq (map (λ c. c.row) changes)
-  unfolding IsDistinct
-  once_of [] changes names made apart = subst (λ (l : List RowChange). IsDistinct row_eq (map (λ c. c.row) l)) (let e : [] ≡ changes = cc in e) tt
-  once_of (entry ∷ rows) changes names made apart =
-      by (in_statement (kept entry.1 tests)) (make entry) refl (updates_of tests make rows) refl made (λ more is. once_of rows more names is apart.1)
-    where
-      by : (test : Result Bool ExecFault) (one : Result RowChange ExecFault) → make entry ≡ one → (rest : Changes) → updates_of tests make rows ≡ rest →
-          (test >>= λ passes. (if passes then (one >>= λ c. Ok (c ∷ [])) else Ok []) >>= λ some. rest >>= λ more. Ok (some ++ more)) ≡ Ok changes →
-          ((more : List RowChange) → updates_of tests make rows ≡ Ok more → IsDistinct row_eq (map (λ c. c.row) more)) → IsDistinct row_eq (map (λ c. c.row) changes)
-      by (Err e) one is rest has so later = absurd cc
-      by (Ok true) (Err e) is rest has so later = absurd cc
-      by (Ok true) (Ok c) is (Err e) has so later = absurd cc
-      by (Ok true) (Ok c) is (Ok more) has so later =
-          subst (λ (l : List RowChange). IsDistinct row_eq (map (λ x. x.row) l)) (let e : c ∷ more ≡ changes = cc in e) (
-            among (λ y. row_eq c.row y ≡ false) rows more names has
-                (subst (λ (r : RowId). AllByRecursion (λ y. row_eq r y ≡ false) (keys_of rows)) (sym (names entry c is)) apart.0),
-            later more has,
-          )
-      by (Ok false) one is (Err e) has so later = absurd cc
-      by (Ok false) one is (Ok more) has so later =
-          subst (λ (l : List RowChange). IsDistinct row_eq (map (λ x. x.row) l)) (let e : more ≡ changes = cc in e) (later more has)
-
-  pub puts_of : (rows : Table) (changes : List RowChange) → ((entry : Entry) (c : RowChange) → make entry ≡ Ok c → IsPut c) →
-      updates_of tests make rows ≡ Ok changes → All IsPut changes
-  puts_of [] changes puts made = subst (All IsPut) (let e : [] ≡ changes = cc in e) (All-nil IsPut)
-  puts_of (entry ∷ rows) changes puts made =
-      by (in_statement (kept entry.1 tests)) (make entry) refl (updates_of tests make rows) made (λ more is. puts_of rows more puts is) refl
-    where
-      by : (test : Result Bool ExecFault) (one : Result RowChange ExecFault) → make entry ≡ one → (rest : Changes) →
-          (test >>= λ passes. (if passes then (one >>= λ c. Ok (c ∷ [])) else Ok []) >>= λ some. rest >>= λ more. Ok (some ++ more)) ≡ Ok changes →
-          ((more : List RowChange) → updates_of tests make rows ≡ Ok more → All IsPut more) → updates_of tests make rows ≡ rest → All IsPut changes
-      by (Err e) one is rest so later has = absurd cc
-      by (Ok true) (Err e) is rest so later has = absurd cc
-      by (Ok true) (Ok c) is (Err e) so later has = absurd cc
-      by (Ok true) (Ok c) is (Ok more) so later has =
-          subst (All IsPut) (let e : c ∷ more ≡ changes = cc in e)
-          (All-cons IsPut c more (puts entry c is) (later more has))
-      by (Ok false) one is (Err e) so later has = absurd cc
-      by (Ok false) one is (Ok more) so later has = subst (All IsPut) (let e : more ≡ changes = cc in e) (later more has)
-
 -- by their cells, and behind changes that were made before
 by_cells : (tests : List Expr) (make : Entry → Result RowChange ExecFault) (make_row : List Cell → Result RowChange ExecFault) (done : List RowChange) (rows : Table) → All (λ entry. make_row entry.1 ≡ make entry) rows →
     updates_behind tests make_row done (images rows) ≡ (updates_of tests make rows >>= λ more. Ok (done ++ more))
@@ -257,37 +190,6 @@ by_cells tests make make_row done (entry ∷ rows) same =
         (made >>= λ some. updates_behind tests make_row (done ++ some) (images rows)) ≡ ((made >>= λ some. updates_of tests make rows >>= λ more. Ok (some ++ more)) >>= λ more. Ok (done ++ more))
     by (Err e) rest = refl
     by (Ok some) rest = rest some ∙ joined some (updates_of tests make rows)
-
-module _ (tables : Tables) (update : BoundUpdate) (base : Table) where
-  abbrev made_of : Entry → Result (List Cell) ExecFault → Result RowChange ExecFault
-  made_of entry image = image >>= λ cells. Ok (change_of base entry.0 (Put cells))
-
-  name_stays : (entry : Entry) (c : RowChange) → update_one tables update base entry ≡ Ok c → c.row ≡ entry.0
-  name_stays entry c made = by (set_image tables update entry.1) (sym (image_first tables update base entry) ∙ made)
-    where
-      by : (image : Result (List Cell) ExecFault) → made_of entry image ≡ Ok c → c.row ≡ entry.0
-      by (Err e) is = absurd cc
-      by (Ok cells) is = let same : change_of base entry.0 (Put cells) ≡ c = cc in ap (λ (x : RowChange). x.row) (sym same)
-
-  is_put : (entry : Entry) (c : RowChange) → update_one tables update base entry ≡ Ok c → IsPut c
-  is_put entry c made = by (set_image tables update entry.1) (sym (image_first tables update base entry) ∙ made)
-    where
-      by : (image : Result (List Cell) ExecFault) → made_of entry image ≡ Ok c → IsPut c
-      by (Err e) is = absurd cc
-      by (Ok cells) is = let same : change_of base entry.0 (Put cells) ≡ c = cc in subst IsPut same (cells, refl)
-
-  -- the changes of an UPDATE put rows
-  pub updates_made : (net : List ChangeOfRow) (rows : Table) (changes : List RowChange) → updates_of update.tests (update_one tables update base) (of_table update.table rows) ≡ Ok changes →
-      MayBeMade net changes
-  updates_made net rows changes made = puts_made net changes (puts_of update.tests (update_one tables update base) (of_table update.table rows) changes is_put made)
-
-  -- each once
-  pub updates_once : (rows : Table) (changes : List RowChange) → Rises rows → updates_of update.tests (update_one tables update base) (of_table update.table rows) ≡ Ok changes →
-      IsDistinct row_eq (map (λ c. c.row) changes)
-  unfolding row_eq
-  updates_once rows changes rises made =
-      once_of update.tests (update_one tables update base) (of_table update.table rows) changes name_stays made
-      (IsDistinct-keys_filter row_eq (λ entry. nat_eq entry.0.table update.table) rows (IsDistinct-from_sorted row_cmp (keys_of rows) rises))
 
 -- ---- the rows that the plan hands out
 

@@ -1,6 +1,6 @@
 -- What holds of the changes of each statement that writes, whatever it says: they name rows once each, which are there
 -- or aren't, and what they put are rows of the schema. And what holds of a transaction's net behind each of its statements.
-use Rattle.std.specs.Prelude.{◌≡◌, ⊤, ℕ, true, false, None, Some, IsSome, List, map, slice_index_or}
+use Rattle.std.specs.Prelude.{◌≡◌, ⊤, ℕ, Bool, true, false, ◌||◌, None, Some, IsSome, List, map, slice_index_or}
 use Rattle.std.specs.List.{All, IsDistinct}
 use Rattle.std.specs.List.Sorted.{IsStrictlySortedBy}
 use Rattle.std.specs.Option.{is_some}
@@ -76,6 +76,20 @@ pub record AreTouches (tables : Tables) (number : ℕ) (base : Table) (own : Lis
   pub rows : AreChangesOfRows (λ change. change ≡ Touch) tables number base own touches
   pub lacked : All (λ c. has_row c.row own ≡ false) touches
   pub known : All (λ c. c.before ≡ true) touches
+
+-- ---- changes that a net takes
+
+-- the change of a row puts it, or removes one that the net or the snapshot has, or touches one that the snapshot has
+abbrev pub MayChange : Bool → Bool → Change → Type 0
+MayChange held before (Put _) = ⊤
+MayChange held before Remove = (held || before) ≡ true
+MayChange held before Touch = before ≡ true
+
+-- each of the changes is such a one, and no row is changed twice: so a net may take them, and as many rows are changed as there
+-- are changes
+pub record CanBeApplied (own : List ChangeOfRow) (changes : List RowChange) : Type 0 where
+  pub each : All (λ c. MayChange (has_row c.row own) c.before c.change) changes
+  pub once : IsDistinct row_eq (rows_named changes)
 
 -- ---- the net of a transaction
 

@@ -25,8 +25,6 @@ use Rattle.sql_bind.specs.declared.bound.BoundUpdate.{BoundUpdate}
 use Rattle.sql_bind.specs.declared.bound.ExprRow.{ExprRow}
 use Rattle.sql_bind.specs.declared.bound.SetTo.{SetTo}
 use Rattle.sql_bind.specs.Steps.{each, each_behind}
-use Rattle.sql_exec.specs.declared.effect.Effect.{Effect}
-use Rattle.sql_exec.specs.declared.for_update.Locked.{Locked}
 use Rattle.sql_exec.specs.Answers.{answer_of}
 use Rattle.sql_expr.specs.Conditions.{kept}
 use Rattle.sql_expr.specs.declared.expr.Expr.{Expr}
@@ -170,15 +168,17 @@ pub record IsNetAfter (own : List ChangeOfRow) (changes : List RowChange) (net :
   pub touches : HasTouchesOf own changes net
   pub within : IsWithinLimits net
 
--- what a statement that writes answers: how many rows it changes, and the net after them
-abbrev pub IsDone : List ChangeOfRow → Result (List RowChange) ExecFault → Effect → Type 0
-IsDone own (Err e) effect = ⊥
-IsDone own (Ok changes) effect = (effect.changed ≡ length changes) × IsNetAfter own changes effect.own
+-- What a statement that writes does as a whole: how many rows it changes, and the transaction's net after them. Two calls give
+-- it, one behind the other: that of the statement answers its changes or its first fault, and `apply_changes` makes the changes
+-- in the net, or answers the limit that it would break.
+abbrev pub IsDone : List ChangeOfRow → Result (List RowChange) ExecFault → ℕ → List ChangeOfRow → Type 0
+IsDone own (Err e) changed net = ⊥
+IsDone own (Ok changes) changed net = (changed ≡ length changes) × IsNetAfter own changes net
 
 -- the same of a query that locks: its lines, and the net after its touches
-abbrev pub IsLocked : List ChangeOfRow → Result (List (List Cell) × List RowChange) ExecFault → Locked → Type 0
-IsLocked own (Err e) locked = ⊥
-IsLocked own (Ok made) locked = (locked.lines ≡ made.0) × IsNetAfter own made.1 locked.own
+abbrev pub IsLocked : List ChangeOfRow → Result (List (List Cell) × List RowChange) ExecFault → List (List Cell) → List ChangeOfRow → Type 0
+IsLocked own (Err e) lines net = ⊥
+IsLocked own (Ok made) lines net = (lines ≡ made.0) × IsNetAfter own made.1 net
 
 -- the touches alone
 abbrev pub touches_in : Result (List (List Cell) × List RowChange) ExecFault → Result (List RowChange) ExecFault

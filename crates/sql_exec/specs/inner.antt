@@ -1,8 +1,6 @@
 -- What only the bodies of this crate speak of.
 pub mod Fitting
-pub mod Handed
 pub mod Inserting
-pub mod Making
 pub mod Naming
 pub mod Plain
 pub mod Removing

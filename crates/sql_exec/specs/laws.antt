@@ -1,4 +1,5 @@
 -- Laws, with their proofs, for the proofs of the crates above.
+pub mod Applying
 pub mod Duplicates
 pub mod Fitting
 pub mod Inserted

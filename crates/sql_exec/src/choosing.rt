@@ -1,10 +1,11 @@
 //! The rows of one table by the plan that is chosen.
 ghost use Rattle.std.specs.Prelude.{◌≡◌, ◌+◌, ◌<◌, ◌≤◌, [], ◌∷◌, filter, length, map, IfOk};
+ghost use Rattle.std.specs.List.{All};
+ghost use Rattle.geo_schema.specs.Rows.{IsRow};
 ghost use Rattle.geo_schema.specs.Schemas.{IsTableNo, table_at};
 ghost use Rattle.row_source.specs.Bounds.{steps_of};
 ghost use Rattle.row_source.specs.Handing.{IsAccessTo, reaches};
 ghost use Rattle.row_source.specs.Sources.{AreRowsOf, images};
-ghost use Rattle.sql_exec.specs.inner.Handed.{AreHanded};
 ghost use Rattle.sql_plan.specs.Plans as plans;
 
 use crate::reaching::reached_rows;
@@ -45,7 +46,7 @@ pub(crate) fn chosen_rows<'a, R: RowSource, L: Ledger>(
     requires rows { AreRowsOf schema.now (R.rows source.now) }
     ensures table { IsTableNo schema.now table }
     ensures rows { IfOk result (λ found. map (λ image. image.now) found.items ≡ images (filter (reaches schema.now table (plans.plan_of schema.now (table ∷ []) tests.now).first) (R.rows source.entry.now))) }
-    ensures handed { IfOk result (λ found. AreHanded schema.now table (R.rows source.entry.now) (map (λ image. image.now) found.items)) }
+    ensures fit { IfOk result (λ found. All (IsRow (table_at schema.now table)) (map (λ image. image.now) found.items)) }
     ensures steps { steps.new ≤ steps.old + steps_of schema.now (table ∷ []) (plans.plan_of schema.now (table ∷ []) tests.now) (R.rows source.entry.now) }
 {
     let _count = schema.count();

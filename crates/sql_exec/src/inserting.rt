@@ -11,27 +11,24 @@ ghost use Rattle.row_source.specs.declared.fault.ExecFault.TheVariants as fault;
 ghost use Rattle.sql_bind.specs.Names.{columns_of};
 ghost use Rattle.sql_bind.specs.Sound.{IsSoundInsert, IsSoundRow};
 ghost use Rattle.sql_exec.specs.Effects as effects;
-ghost use Rattle.sql_exec.specs.Effects.{IsDone, IsRefused, insert_changes};
+ghost use Rattle.sql_exec.specs.Effects.{insert_changes};
 ghost use Rattle.sql_exec.specs.inner.Fitting.{nulls, written};
 ghost use Rattle.sql_exec.specs.inner.Inserting.{AreNamesOf, has_name, new_image, new_row};
 ghost use Rattle.write_set.specs.Net.{change_in};
-ghost use Rattle.write_set.specs.Overlay.{image_in, overlay};
 ghost use Rattle.write_set.specs.Snapshot.{image_over};
 ghost use Rattle.write_set.specs.declared.row_change.RowChange.{RowChange};
 
-use crate::effect::Effect;
 use crate::fitting::{fitting, numbered};
 use crate::lines::value_over;
 use crate::naming::name_of;
-use crate::netting::effect_of;
-use geo_base::{Cell, Duplicate, NoMemory, RowId, RowImage};
+use geo_base::{Cell, Duplicate, Many, NoMemory, RowId, RowImage};
 use geo_schema::{ColumnDef, Schema};
 use row_source::{ExecFault, RowSource};
 use sql_bind::{BoundInsert, ExprRow, bound_values_are_of_their_columns_types};
 use sql_expr::Expr;
 use std::alloc::Global;
 use std::collections::BTreeSet;
-use write_set::{Change, RowChange, WriteSet};
+use write_set::{Change, RowChange, RowChangeList, WriteSet};
 
 /// NULL for each column.
 fn nulls(alloc: Global, columns: &[ColumnDef]) -> Result<Vec<Cell>, NoMemory>
@@ -191,29 +188,26 @@ fn insert_rows<R: RowSource>(
     Ok(changes)
 }
 
-/// What an INSERT does: it puts its rows into the transaction's net `own`, in the order in which they are written, each
-/// of which the source's base with the net laid over it lacks. No row is handed out: whether there is one is asked of the
-/// base and of the net.
+/// The changes of an INSERT, which [`crate::apply_changes`] makes in the transaction's net `own`: it puts its rows, in the
+/// order in which they are written, each of which the source's base with the net laid over it lacks. No row is handed out:
+/// whether there is one is asked of the base and of the net.
 ///
 /// A row's values come first, from left to right, then its cells in the order of their columns, then its name, and the
 /// first fault of the first row that has one is the answer: [`ExecFault::Overflow`] or [`ExecFault::DivideByZero`],
-/// [`ExecFault::NullNotAllowed`] or [`ExecFault::TextTooLong`], [`ExecFault::Duplicate`]. Else it is
-/// [`ExecFault::TooManyRows`] or [`ExecFault::TooLarge`] where the net after the statement breaks that limit. The cost is
-/// that of the values, for each row a copy of its key, a question to the base, and a search in the net and among the names
-/// so far, and what [`WriteSet::with`] takes, which copies the net.
-#[tactic(auto, using(geo_schema::specs::laws::Numbers::shown_is, crate::proofs::Inserted::inserts_made, crate::proofs::Inserted::inserts_once, crate::proofs::Answered::done_is, crate::proofs::Answered::net_refused, crate::proofs::Answered::fault_refused))]
+/// [`ExecFault::NullNotAllowed`] or [`ExecFault::TextTooLong`], [`ExecFault::Duplicate`]. The cost is that of the values,
+/// and for each row two copies of its key, a question to the base, and a search in the net and among the names so far.
+#[tactic(auto, using(geo_schema::specs::laws::Numbers::shown_is))]
 pub fn insert<R: RowSource>(
     alloc: Global,
     query: &BoundInsert,
     source: &R,
     own: &WriteSet,
     schema: &Schema,
-) -> Result<Effect, ExecFault>
+) -> Result<RowChangeList, ExecFault>
     requires { IsSoundInsert schema.now query.now }
-    ensures done { IfOk result (IsDone own.now (insert_changes schema.now query.now (R.base source.now) own.now)) }
-    ensures refused { IfErr result (λ e. (e ≡ fault.NoMemory) ⊎ IsRefused own.now (insert_changes schema.now query.now (R.base source.now) own.now) e) }
+    ensures { Gives fault.NoMemory (λ c. c) result (insert_changes schema.now query.now (R.base source.now) own.now) }
 {
     let _count = schema.count();
     let changes = insert_rows(alloc, query, source, own, schema)?;
-    effect_of(alloc, own, changes)
+    Ok(Many::new(changes))
 }

@@ -1,5 +1,5 @@
 //! Laws of statements that write, each the contract of a function that does nothing.
-ghost use Rattle.std.specs.Prelude.{◌≡◌, ◌≢◌, ◌↔◌, List, [], All, Result, Ok, Err};
+ghost use Rattle.std.specs.Prelude.{◌≡◌, ◌≢◌, ◌↔◌, ℕ, List, [], All, Result, Ok, Err};
 ghost use Rattle.geo_base.specs.declared.cell.Cell.{Cell};
 ghost use Rattle.geo_base.specs.declared.row_id.RowId.{RowId};
 ghost use Rattle.geo_base.specs.declared.row_image.RowImage.{RowImage};
@@ -16,10 +16,8 @@ ghost use Rattle.sql_bind.specs.declared.bound.BoundSelect.{BoundSelect};
 ghost use Rattle.sql_bind.specs.declared.bound.BoundUpdate.{BoundUpdate};
 ghost use Rattle.sql_bind.specs.Names.{column_types};
 ghost use Rattle.sql_bind.specs.Sound.{IsSoundInsert, IsSoundUpdate};
-ghost use Rattle.sql_exec.specs.declared.effect.Effect.{Effect};
-ghost use Rattle.sql_exec.specs.declared.for_update.Locked.{Locked};
 ghost use Rattle.sql_exec.specs.Answers.{answer_of};
-ghost use Rattle.sql_exec.specs.Changes.{AreChangesOfRows, ArePutsOfNewRows, AreTouches, IsFaultFor, IsOwnNet, IsPut, IsSoundChange};
+ghost use Rattle.sql_exec.specs.Changes.{AreChangesOfRows, ArePutsOfNewRows, AreTouches, CanBeApplied, IsFaultFor, IsOwnNet, IsPut, IsSoundChange};
 ghost use Rattle.sql_exec.specs.Effects.{IsDone, IsLocked, IsRefused, delete_changes, fitting, insert_changes, lock_changes, locked_table, touches_in, update_changes};
 ghost use Rattle.sql_expr.specs.Rows.{HasTypes};
 ghost use Rattle.write_set.specs.declared.change.Change.{Change};
@@ -103,20 +101,36 @@ pub fn duplicates_are_of_the_table()
     bound_values_are_of_their_columns_types();
 }
 
+/// The changes of a statement may be made in the net that it was shown, without a question: no row is changed twice, a
+/// removal is of a row that the net or the base has, and a touch of one that the base has.
+pub fn changes_can_be_applied()
+    ensures insert { (tables : Tables) (insert : BoundInsert) (base : Table) (own : List ChangeOfRow) (changes : List RowChange) →
+        IsSchema tables → IsSoundInsert tables insert → insert_changes tables insert base own ≡ Ok changes → CanBeApplied own changes }
+    ensures update { (tables : Tables) (update : BoundUpdate) (base : Table) (own : List ChangeOfRow) (changes : List RowChange) →
+        IsSoundUpdate tables update → AreRowsOf tables (overlay base own) → update_changes tables update base own ≡ Ok changes →
+        CanBeApplied own changes }
+    ensures delete { (delete : BoundDelete) (base : Table) (own : List ChangeOfRow) (changes : List RowChange) →
+        Rises base → Rises own → delete_changes delete base own ≡ Ok changes → CanBeApplied own changes }
+    ensures lock { (query : BoundSelect) (base : Table) (own : List ChangeOfRow) (lines : List (List Cell)) (touches : List RowChange) →
+        Rises base → Rises own → lock_changes query base own ≡ Ok (lines, touches) → CanBeApplied own touches }
+{
+    bound_values_are_of_their_columns_types();
+}
+
 /// What a transaction's net is over its base when it begins it stays behind each statement that writes or locks: laid over
 /// the base it gives rows of the schema, each row that it has fits the schema, and what it touches is in the base.
 pub fn own_nets_stay_own_nets()
     ensures begin { (tables : Tables) (base : Table) → AreRowsOf tables base → IsOwnNet tables base [] }
-    ensures insert { (tables : Tables) (insert : BoundInsert) (base : Table) (own : List ChangeOfRow) (effect : Effect) →
+    ensures insert { (tables : Tables) (insert : BoundInsert) (base : Table) (own : List ChangeOfRow) (changed : ℕ) (net : List ChangeOfRow) →
         IsSchema tables → IsSoundInsert tables insert → IsOwnNet tables base own →
-        IsDone own (insert_changes tables insert base own) effect → IsOwnNet tables base effect.own }
-    ensures update { (tables : Tables) (update : BoundUpdate) (base : Table) (own : List ChangeOfRow) (effect : Effect) →
+        IsDone own (insert_changes tables insert base own) changed net → IsOwnNet tables base net }
+    ensures update { (tables : Tables) (update : BoundUpdate) (base : Table) (own : List ChangeOfRow) (changed : ℕ) (net : List ChangeOfRow) →
         IsSoundUpdate tables update → IsOwnNet tables base own →
-        IsDone own (update_changes tables update base own) effect → IsOwnNet tables base effect.own }
-    ensures delete { (tables : Tables) (delete : BoundDelete) (base : Table) (own : List ChangeOfRow) (effect : Effect) →
-        IsOwnNet tables base own → IsDone own (delete_changes delete base own) effect → IsOwnNet tables base effect.own }
-    ensures lock { (tables : Tables) (query : BoundSelect) (base : Table) (own : List ChangeOfRow) (locked : Locked) →
-        IsOwnNet tables base own → IsLocked own (lock_changes query base own) locked → IsOwnNet tables base locked.own }
+        IsDone own (update_changes tables update base own) changed net → IsOwnNet tables base net }
+    ensures delete { (tables : Tables) (delete : BoundDelete) (base : Table) (own : List ChangeOfRow) (changed : ℕ) (net : List ChangeOfRow) →
+        IsOwnNet tables base own → IsDone own (delete_changes delete base own) changed net → IsOwnNet tables base net }
+    ensures lock { (tables : Tables) (query : BoundSelect) (base : Table) (own : List ChangeOfRow) (lines : List (List Cell)) (net : List ChangeOfRow) →
+        IsOwnNet tables base own → IsLocked own (lock_changes query base own) lines net → IsOwnNet tables base net }
 {
     bound_values_are_of_their_columns_types();
 }

@@ -1,51 +1,50 @@
-//! The transaction's net after a statement.
-ghost use Rattle.std.specs.Prelude.{◌≡◌, ◌⊎◌, Ok, map, IfOk, IfErr};
-ghost use Rattle.std.specs.List.{IsDistinct};
-ghost use Rattle.geo_base.specs.Order.{row_eq};
+//! The changes of a statement in the transaction's net.
+ghost use Rattle.std.specs.Prelude.{◌≡◌, ◌⊎◌, Ok, IfOk, IfErr, OnErr};
 ghost use Rattle.row_source.specs.declared.fault.ExecFault.TheVariants as fault;
+ghost use Rattle.sql_exec.specs.Changes.{CanBeApplied};
 ghost use Rattle.sql_exec.specs.Effects.{IsDone, IsNetAfter, IsRefused};
-ghost use Rattle.sql_exec.specs.inner.Making.{MayBeMade};
 ghost use Rattle.write_set.specs.Net.{TouchesKnown};
 
-use crate::effect::Effect;
 use row_source::ExecFault;
 use std::alloc::Global;
-use write_set::{RowChange, SetFault, WriteSet};
+use write_set::{RowChange, RowChangeList, SetFault, WriteSet};
 
-/// The transaction's net after the changes.
-pub(crate) fn net_after(
-    alloc: Global,
-    own: &WriteSet,
-    changes: Vec<RowChange>,
-) -> Result<WriteSet, ExecFault>
-    requires { TouchesKnown own.now changes.items }
-    ensures net { IfOk result (IsNetAfter own.now changes.items) }
-    ensures refused { IfErr result (λ e. (e ≡ fault.NoMemory) ⊎ IsRefused own.now (Ok changes.items) e) }
+/// Makes the changes in the net, in place.
+fn make(own: &mut WriteSet, alloc: Global, changes: Vec<RowChange>) -> Result<(), ExecFault>
+    requires { TouchesKnown own.old changes.items }
+    ensures net { IfOk result (λ _. IsNetAfter own.old changes.items own.new) }
+    ensures refused { IfErr result (λ e. (e ≡ fault.NoMemory) ⊎ IsRefused own.old (Ok changes.items) e) }
+    ensures stays { OnErr result (own.new ≡ own.old) }
 {
-    match own.with(alloc, changes) {
-        Ok(net) => Ok(net),
+    match own.apply(alloc, changes) {
+        Ok(()) => Ok(()),
         Err(SetFault::TooManyRows) => Err(ExecFault::TooManyRows),
         Err(SetFault::TooLarge) => Err(ExecFault::TooLarge),
         Err(SetFault::NoMemory) => Err(ExecFault::NoMemory),
     }
 }
 
-/// What a statement has done that puts or removes rows, each once: how many, and the net after them.
-pub(crate) fn effect_of(
+/// Makes the changes of a statement in the transaction's net `own`, in place, and answers how many rows it has changed,
+/// also those whose image stays the same. What [`crate::insert`], [`crate::update`], [`crate::delete`] and
+/// [`crate::lock`] answer may be made in the net that they were shown.
+///
+/// [`ExecFault::TooManyRows`] or [`ExecFault::TooLarge`] is answered where the net after the changes breaks that limit, and
+/// [`ExecFault::NoMemory`] where there is no memory for it; the net stays as it was then. The cost is that of
+/// [`WriteSet::apply`]: some steps and a search by halving in the net for each change, and none for the rest of the net,
+/// but that a row between others moves those behind it.
+pub fn apply_changes(
+    own: &mut WriteSet,
     alloc: Global,
-    own: &WriteSet,
-    changes: Vec<RowChange>,
-) -> Result<Effect, ExecFault>
-    requires altering { MayBeMade own.now changes.items }
-    requires once { IsDistinct row_eq (map (λ c. c.row) changes.items) }
-    ensures done { IfOk result (IsDone own.now (Ok changes.items)) }
-    ensures refused { IfErr result (λ e. (e ≡ fault.NoMemory) ⊎ IsRefused own.now (Ok changes.items) e) }
+    changes: RowChangeList,
+) -> Result<u32, ExecFault>
+    requires { CanBeApplied own.old changes }
+    ensures done { IfOk result (λ changed. IsDone own.old (Ok changes) changed own.new) }
+    ensures refused { IfErr result (λ e. (e ≡ fault.NoMemory) ⊎ IsRefused own.old (Ok changes) e) }
+    ensures stays { OnErr result (own.new ≡ own.old) }
 {
     let _few = own.count();
+    let changes = changes.into_vec();
     let changed = changes.len();
-    let own = net_after(alloc, own, changes)?;
-    Ok(Effect {
-        changed: changed as u32,
-        own,
-    })
+    make(own, alloc, changes)?;
+    Ok(changed as u32)
 }

@@ -1,11 +1,12 @@
 //! Queries.
-ghost use Rattle.std.specs.Prelude.{◌≡◌, ◌+◌, ◌≤◌, false, true, [], Ok, length, map};
+ghost use Rattle.std.specs.Prelude.{◌≡◌, ◌+◌, ◌≤◌, false, true, [], Ok, filter, length, map};
 ghost use Rattle.std.specs.List.{All};
 ghost use Rattle.geo_base.specs.Results.{Gives};
 ghost use Rattle.geo_base.specs.declared.limits.TheConstants.{MAX_LINE_CELLS};
-ghost use Rattle.row_source.specs.Bounds.{steps_of};
-ghost use Rattle.row_source.specs.Handing.{IsPlanFor, LeavesOut};
-ghost use Rattle.row_source.specs.Sources.{AreRowsOf};
+ghost use Rattle.geo_schema.specs.Schemas.{table_at};
+ghost use Rattle.row_source.specs.Bounds.{reached, steps_of};
+ghost use Rattle.row_source.specs.Handing.{IsAccessTo, IsPlanFor, LeavesOut, reaches};
+ghost use Rattle.row_source.specs.Sources.{AreRowsOf, images};
 ghost use Rattle.row_source.specs.declared.fault.ExecFault.TheVariants as fault;
 ghost use Rattle.sql_bind.specs.Sound.{IsSoundSelect, is_plain};
 ghost use Rattle.sql_exec.specs.Answers.{answer_of};
@@ -15,10 +16,11 @@ ghost use Rattle.sql_plan.specs.Plans as plans;
 
 use crate::keeping::kept_rows;
 use crate::lines::{LineList, limited_lines};
+use crate::pointing::answer_of_named;
 use crate::reaching::reached_rows;
-use geo_base::RowImage;
+use geo_base::{RowId, RowImage, TableNo};
 use geo_schema::Schema;
-use row_source::{ExecFault, Plan, RowSource, Steps};
+use row_source::{Access, ExecFault, Plan, RowSource, Steps};
 use sql_bind::BoundSelect;
 use sql_plan::{plan_of, tests_drop_what_plans_leave_out};
 use std::alloc::Global;
@@ -40,6 +42,31 @@ fn plain_answer(
     limited_lines(alloc, query.items.items(), query.limit, kept.as_slice())
 }
 
+/// What a query answers of the rows of the table that the access reaches.
+fn reached_answer<R: RowSource, L: Ledger>(
+    alloc: Global,
+    query: &BoundSelect,
+    source: &R,
+    table: TableNo,
+    access: Access,
+    steps: &mut Steps<L>,
+) -> Result<LineList, ExecFault>
+    requires some { 1 ≤ length query.now.items }
+    requires few { length query.now.items ≤ MAX_LINE_CELLS }
+    requires plain { All (λ i. is_plain i ≡ true) query.now.items }
+    requires access { IsAccessTo (table_at (R.tables source.now) table) access }
+    ensures answer { Gives fault.NoMemory (λ l. l) result (plain_answer query.now.items query.now.limit query.now.tests (images (filter (reaches (R.tables source.now) table access) (R.rows source.now)))) }
+    ensures steps { steps.new ≤ steps.old + reached (R.tables source.now) table access (R.rows source.now) }
+{
+    match access {
+        Access::Point(key) => answer_of_named(alloc, query, source, &RowId { table, key }, steps),
+        access => {
+            let rows = reached_rows(alloc, source, table, access, steps)?;
+            plain_answer(alloc, query, rows.as_slice())
+        }
+    }
+}
+
 /// What a query of one table without groups and order answers by a plan that leaves out only rows that its tests drop.
 fn select_by<R: RowSource, L: Ledger>(
     alloc: Global,
@@ -58,8 +85,7 @@ fn select_by<R: RowSource, L: Ledger>(
     ensures steps { steps.new ≤ steps.old + steps_of (R.tables source.now) query.now.tables plan (R.rows source.now) }
 {
     let table = query.tables.items()[0];
-    let rows = reached_rows(alloc, source, table, plan.first, steps)?;
-    plain_answer(alloc, query, rows.as_slice())
+    reached_answer(alloc, query, source, table, plan.first, steps)
 }
 
 /// What a query of one table without groups and order answers: its lines in the order of keys, or its first fault. The rows
@@ -69,7 +95,7 @@ fn select_by<R: RowSource, L: Ledger>(
 ///
 /// The cost is that of the choice, which takes some steps for each test and each column of a key or an index, what the
 /// source takes to hand the rows out, and a step for each of them and each test, item and cell of a line; a text is copied
-/// only into a line.
+/// only into a line. A query of one row by its key takes no memory for its rows, and some for its plan.
 pub fn select<R: RowSource, L: Ledger>(
     alloc: Global,
     query: &BoundSelect,

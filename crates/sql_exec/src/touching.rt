@@ -1,11 +1,10 @@
 //! Touches of rows.
-ghost use Rattle.std.specs.Prelude.{◌≡◌, ◌++◌, ◌⊎◌, [], ◌∷◌, map, IfOk, OnOk};
+ghost use Rattle.std.specs.Prelude.{◌≡◌, ◌++◌, [], ◌∷◌, map, IfOk, OnOk};
 ghost use Rattle.std.specs.List.{All};
 ghost use Rattle.geo_schema.specs.Rows.{IsRow};
 ghost use Rattle.geo_schema.specs.Schemas.{IsTableNo, table_at};
 ghost use Rattle.sql_exec.specs.inner.Naming.{name_in};
 ghost use Rattle.sql_exec.specs.inner.Touching.{touches_by};
-ghost use Rattle.write_set.specs.Sets.{Rises};
 
 use crate::naming::name_of;
 use geo_base::{NoMemory, RowId, RowImage, TableNo};
@@ -22,8 +21,7 @@ fn touch<R: RowSource>(
     row: RowId,
     touches: &mut Vec<RowChange>,
 ) -> Result<(), NoMemory>
-    ensures touches { OnOk result (touches.new.items ≡ touches.old.items ++ touches_by (R.base source.now) own.now (row ∷ [])) }
-    ensures base { OnOk result ((touches.new.items ≡ touches.old.items) ⊎ Rises (R.base source.now)) }
+    ensures { OnOk result (touches.new.items ≡ touches.old.items ++ touches_by (R.base source.now) own.now (row ∷ [])) }
 {
     if own.get(&row).is_some() {
         return Ok(());
@@ -38,7 +36,7 @@ fn touch<R: RowSource>(
 }
 
 /// The touches of those of the rows of the table that the net lacks.
-#[tactic(auto, using(crate::proofs::Touched::none, crate::proofs::Touched::still))]
+#[tactic(auto, using(crate::proofs::Touched::none))]
 pub(crate) fn touches_of<R: RowSource>(
     alloc: Global,
     schema: &Schema,
@@ -49,8 +47,7 @@ pub(crate) fn touches_of<R: RowSource>(
 ) -> Result<Vec<RowChange>, NoMemory>
     requires table { IsTableNo schema.now table }
     requires rows { All (IsRow (table_at schema.now table)) (map (λ row. row.now) rows.now) }
-    ensures touches { IfOk result (λ v. v.items ≡ touches_by (R.base source.now) own.now (map (name_in schema.now table) (map (λ row. row.now) rows.now))) }
-    ensures base { IfOk result (λ v. (v.items ≡ []) ⊎ Rises (R.base source.now)) }
+    ensures { IfOk result (λ v. v.items ≡ touches_by (R.base source.now) own.now (map (name_in schema.now table) (map (λ row. row.now) rows.now))) }
 {
     let mut touches = Vec::new(alloc);
     for row in rows {

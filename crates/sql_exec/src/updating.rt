@@ -1,5 +1,5 @@
 //! Rows that are updated.
-ghost use Rattle.std.specs.Prelude.{◌≡◌, ◌+◌, ◌<◌, ◌≤◌, ◌⊎◌, [], ◌∷◌, length, map, IfOk, IfErr};
+ghost use Rattle.std.specs.Prelude.{◌≡◌, ◌+◌, ◌<◌, ◌≤◌, [], ◌∷◌, length, map};
 ghost use Rattle.std.specs.List.{All};
 ghost use Rattle.geo_base.specs.Results.{Gives};
 ghost use Rattle.geo_schema.specs.Rows.{IsRow};
@@ -8,27 +8,25 @@ ghost use Rattle.row_source.specs.Bounds.{steps_of};
 ghost use Rattle.row_source.specs.Sources.{AreRowsOf, of_table};
 ghost use Rattle.row_source.specs.declared.fault.ExecFault.TheVariants as fault;
 ghost use Rattle.sql_bind.specs.Sound.{IsSoundUpdate};
-ghost use Rattle.sql_exec.specs.Effects.{IsDone, IsRefused, update_changes, update_one, updates_of};
+ghost use Rattle.sql_exec.specs.Effects.{update_changes, update_one, updates_of};
 ghost use Rattle.sql_exec.specs.inner.Fitting.{written};
 ghost use Rattle.sql_exec.specs.inner.Updating.{set_image, update_row, updates_behind};
 ghost use Rattle.sql_plan.specs.Plans as plans;
 ghost use Rattle.write_set.specs.Overlay.{overlay};
 
 use crate::choosing::chosen_rows;
-use crate::effect::Effect;
 use crate::fitting::fitting;
 use crate::keeping::is_kept;
 use crate::lines::value_over;
 use crate::naming::name_of;
-use crate::netting::effect_of;
-use geo_base::{Cell, RowImage, copy_items};
+use geo_base::{Cell, Many, RowImage, copy_items};
 use geo_schema::Schema;
 use row_source::{ExecFault, RowSource, Steps};
 use sql_bind::{BoundUpdate, SetTo, bound_values_are_of_their_columns_types};
 use sql_plan::tests_drop_what_plans_leave_out;
 use std::alloc::Global;
 use std::sync::ledger::Ledger;
-use write_set::{Change, RowChange, WriteSet};
+use write_set::{Change, RowChange, RowChangeList, WriteSet};
 
 /// The cells of a row with new values in the columns that are set, all of them over the row as it stands.
 #[tactic(auto, using(crate::proofs::Written::all_set))]
@@ -128,17 +126,17 @@ fn planned_updates<R: RowSource, L: Ledger>(
     update_rows(alloc, query, source, schema, rows.as_slice())
 }
 
-/// What an UPDATE does: it puts the rows that its conditions keep, with the values that are set, into the transaction's net
-/// `own`. The rows of the source are those of its base with the net laid over them, and none of them is changed by what the
-/// statement does to an earlier one. Each row that is kept counts as changed, also where its image stays the same.
+/// The changes of an UPDATE, which [`crate::apply_changes`] makes in the transaction's net `own`: it puts the rows that its
+/// conditions keep, with the values that are set. The rows of the source are those of its base with the net laid over them,
+/// and none of them is changed by what the statement does to an earlier one. Each row that is kept has a change, also where
+/// its image stays the same.
 ///
 /// The rows are taken in the order of their keys. Of each the conditions come first, and where they keep it, its values from
 /// left to right, and then its cells in the order of their columns; and the first fault of the first row that has one is the
 /// answer: [`ExecFault::Overflow`] or [`ExecFault::DivideByZero`], [`ExecFault::NullNotAllowed`] or
-/// [`ExecFault::TextTooLong`]. Else it is [`ExecFault::TooManyRows`] or [`ExecFault::TooLarge`] where the net after the
-/// statement breaks that limit. It is handed no more rows than the plan that is chosen for it reaches. Beside what
-/// [`crate::select`] takes for the rows the cost is a copy of each row that is kept and of its key, its values, a question to
-/// the base, and what [`WriteSet::with`] takes, which copies the net.
+/// [`ExecFault::TextTooLong`]. It is handed no more rows than the plan that is chosen for it reaches. Beside what
+/// [`crate::select`] takes for the rows the cost is a copy of each row that is kept and of its key, its values, and a
+/// question to the base.
 pub fn update<R: RowSource, L: Ledger>(
     alloc: Global,
     query: &BoundUpdate,
@@ -146,15 +144,14 @@ pub fn update<R: RowSource, L: Ledger>(
     own: &WriteSet,
     schema: &Schema,
     steps: &mut Steps<L>,
-) -> Result<Effect, ExecFault>
+) -> Result<RowChangeList, ExecFault>
     requires query { IsSoundUpdate schema.now query.now }
     requires schema { R.tables source.now ≡ schema.now }
     requires rows { AreRowsOf schema.now (R.rows source.now) }
     requires laid { R.rows source.now ≡ overlay (R.base source.now) own.now }
-    ensures done { IfOk result (IsDone own.now (update_changes schema.now query.now (R.base source.now) own.now)) }
-    ensures refused { IfErr result (λ e. (e ≡ fault.NoMemory) ⊎ IsRefused own.now (update_changes schema.now query.now (R.base source.now) own.now) e) }
+    ensures changes { Gives fault.NoMemory (λ c. c) result (update_changes schema.now query.now (R.base source.now) own.now) }
     ensures steps { steps.new ≤ steps.old + steps_of schema.now (query.now.table ∷ []) (plans.plan_of schema.now (query.now.table ∷ []) query.now.tests) (R.rows source.now) }
 {
     let changes = planned_updates(alloc, query, source, schema, steps)?;
-    effect_of(alloc, own, changes)
+    Ok(Many::new(changes))
 }

@@ -19,6 +19,8 @@ mod limits;
 #[cfg(test)]
 mod locks;
 #[cfg(test)]
+mod transactions;
+#[cfg(test)]
 mod updates;
 #[cfg(test)]
 mod wide;

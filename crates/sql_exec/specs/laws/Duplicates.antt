@@ -20,9 +20,8 @@ use Rattle.group_exec.specs.declared.limits.TheConstants.{MAX_LINES}
 use Rattle.row_source.specs.declared.fault.ExecFault.{ExecFault}
 use Rattle.row_source.specs.declared.fault.ExecFault.TheVariants as fault
 use Rattle.row_source.specs.Handing.{row_named}
-use Rattle.row_source.specs.Matches.{fault_of, in_statement, kept_of, matches_of, pair_cells, pairs_of, value}
+use Rattle.row_source.specs.Matches.{in_statement, kept_of, matches_of, pair_cells, pairs_of, value}
 use Rattle.row_source.specs.Sources.{Entry, Fits, of_table}
-use Rattle.row_source.specs.declared.pair.Pair.{Pair}
 use Rattle.sql_bind.specs.declared.bound.BoundDelete.{BoundDelete}
 use Rattle.sql_bind.specs.declared.bound.BoundInsert.{BoundInsert}
 use Rattle.sql_bind.specs.declared.bound.BoundSelect.{BoundSelect}
@@ -35,7 +34,7 @@ use Rattle.sql_bind.specs.Names.{columns_of}
 use Rattle.sql_bind.specs.Sound.{IsSoundInsert, IsSoundRow}
 use Rattle.sql_bind.specs.Steps.{each, each_behind}
 use Rattle.sql_exec.specs.Answers.{answer_of}
-use Rattle.sql_exec.specs.Effects.{IsRefused, change_of, column_fault, delete_changes, first_column_fault, fitting, insert_changes, insert_one, inserted_cells, inserted_row, is_taken, kept_entries, lock_changes, locked_table, touches_in, touches_of, unless, update_changes, update_one, updates_of, with_set}
+use Rattle.sql_exec.specs.Effects.{IsRefused, change_of, column_fault, delete_changes, first_column_fault, fitting, insert_changes, insert_one, inserted_cells, is_taken, kept_entries, lock_changes, locked_table, touches_in, touches_of, unless, update_changes, update_one, updates_of, with_set}
 use Rattle.sql_exec.specs.laws.Inserted as inserted
 use Rattle.sql_expr.specs.Conditions.{kept}
 use Rattle.sql_expr.specs.declared.expr.Expr.{Expr}

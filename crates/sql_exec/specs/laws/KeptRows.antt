@@ -96,12 +96,20 @@ nothing_of (p ∷ own) row h =
     rw other (nothing_of own row apart.1)
 
 module _ (base : Table) (own : List ChangeOfRow) (rises : Rises base) (own_rises : Rises own) where
-  -- so the base has such a row, where there is one
+  -- an image that stands there then stands in the base
   base_has : (row : RowId) (image : RowImage) → has_row row own ≡ false → image_in (overlay base own) row ≡ Some image → is_some (image_in base row) ≡ true
   base_has row image none found =
       let same : image_in (overlay base own) row ≡ image_in base row =
       image_laid_over base own row rises own_rises ∙ ap (λ (o : Option Change). image_over o (image_in base row)) (nothing_of own row none) in
       ap is_some (sym same ∙ found)
+
+  -- so the base has it, where there is one
+  pub found_in_base : (row : RowId) → has_row row own ≡ false → IsSome (image_in (overlay base own) row) → is_some (image_in base row) ≡ true
+  found_in_base row none there = by (image_in (overlay base own) row) refl there
+    where
+      by : (o : Option RowImage) → image_in (overlay base own) row ≡ o → IsSome o → is_some (image_in base row) ≡ true
+      by None is some = absurd cc
+      by (Some image) is some = base_has row image none is
 
   kept_lacked : (number : ℕ) (some : Table) → AreKept number (overlay base own) some → AreKept number (overlay base own) (filter (λ entry. not (has_row entry.0 own)) some)
   kept_lacked number some are = record {

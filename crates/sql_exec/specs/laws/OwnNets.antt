@@ -1,7 +1,6 @@
 -- Laws: a transaction's net is over its base what statements may leave, and stays so from one statement to the next.
-use Rattle.std.proofs.Common.{◌≡◌, ◌⊎◌, inl, inr, ℕ, Bool, true, Option, Some, None, IsSome, List, [], ◌∷◌, All, Contains, Result, Ok, Err, refl, sym, ap, ◌∙◌, subst}
+use Rattle.std.proofs.Common.{◌≡◌, ◌⊎◌, inl, inr, ℕ, true, Option, Some, None, IsSome, List, [], All, Contains, Result, Ok, Err, refl, sym, ◌∙◌, subst}
 use Rattle.std.specs.List.Sorted.{IsStrictlySortedBy}
-use Rattle.std.specs.Option.{is_some}
 use Rattle.std.proofs.lemmas.List.Elements.{All-contains, All-nil}
 use Rattle.std.proofs.lemmas.Option.{none-some}
 use Rattle.geo_base.specs.declared.cell.Cell.{Cell}
@@ -10,8 +9,6 @@ use Rattle.geo_base.specs.declared.row_image.RowImage.{RowImage}
 use Rattle.geo_schema.specs.Schemas.{Tables}
 use Rattle.row_source.specs.declared.fault.ExecFault.{ExecFault}
 use Rattle.row_source.specs.Sources.{AreRowsOf, Fits}
-use Rattle.sql_exec.specs.declared.effect.Effect.{Effect}
-use Rattle.sql_exec.specs.declared.for_update.Locked.{Locked}
 use Rattle.sql_exec.specs.Changes.{AreChangesOfRows, ArePutsOfNewRows, HasFittingRow, IsOwnNet, IsPut, IsSoundChange}
 use Rattle.sql_exec.specs.Effects.{IsDone, IsLocked, IsNetAfter}
 use Rattle.sql_exec.specs.laws.Reading.{all_from_found, found_from_all}
@@ -20,9 +17,9 @@ use Rattle.write_set.specs.declared.change.Change.{Change}
 use Rattle.write_set.specs.declared.change.Change.TheVariants.{Put, Remove, Touch}
 use Rattle.write_set.specs.declared.row_change.RowChange.{RowChange}
 use Rattle.write_set.specs.laws.Nets.{IsMadeBy, left_from}
-use Rattle.write_set.specs.Net.{IsNet, change_in, left_of}
+use Rattle.write_set.specs.Net.{change_in}
 use Rattle.write_set.specs.Overlay.{Table, image_in, overlay}
-use Rattle.write_set.specs.Sets.{ChangeOfRow, Rises}
+use Rattle.write_set.specs.Sets.{ChangeOfRow}
 
 module _ (tables : Tables) (base : Table) where
   -- the net of a transaction that has done nothing
@@ -106,14 +103,14 @@ module _ (tables : Tables) (base : Table) where
     pub changes_stay : (IsOfKind : Change → Type 0) → AreChangesOfRows IsOfKind tables number base own changes → IsOwnNet tables base net
     changes_stay IsOfKind are = net_stays own before changes (λ k d within. record { sound = are.sound k d within; row = inr (are.there k d within) }) net after
 
--- what a call that has done its statement says of the changes
-pub done_by : (own : List ChangeOfRow) (made : Result (List RowChange) ExecFault) (effect : Effect) → IsDone own made effect →
-    (changes : List RowChange) × (made ≡ Ok changes) × IsNetAfter own changes effect.own
-done_by own (Ok changes) effect done = (changes, refl, done.1)
-done_by own (Err e) effect done = absurd done
+-- what is said of the changes where a statement is done
+pub done_by : (own : List ChangeOfRow) (made : Result (List RowChange) ExecFault) (changed : ℕ) (net : List ChangeOfRow) → IsDone own made changed net →
+    (changes : List RowChange) × (made ≡ Ok changes) × IsNetAfter own changes net
+done_by own (Ok changes) changed net done = (changes, refl, done.1)
+done_by own (Err e) changed net done = absurd done
 
--- and what one that locks says of the touches
-pub locked_by : (own : List ChangeOfRow) (made : Result (List (List Cell) × List RowChange) ExecFault) (locked : Locked) → IsLocked own made locked →
-    (both : List (List Cell) × List RowChange) × (made ≡ Ok both) × IsNetAfter own both.1 locked.own
-locked_by own (Ok both) locked done = (both, refl, done.1)
-locked_by own (Err e) locked done = absurd done
+-- and what of the touches where one that locks is
+pub locked_by : (own : List ChangeOfRow) (made : Result (List (List Cell) × List RowChange) ExecFault) (lines : List (List Cell)) (net : List ChangeOfRow) → IsLocked own made lines net →
+    (both : List (List Cell) × List RowChange) × (made ≡ Ok both) × IsNetAfter own both.1 net
+locked_by own (Ok both) lines net done = (both, refl, done.1)
+locked_by own (Err e) lines net done = absurd done

@@ -1,4 +1,4 @@
-use Rattle.std.proofs.Common.{Bor, inr}
+use Rattle.std.proofs.Common.{Bor}
 use Rattle.geo_base.specs.declared.row_image.RowImage.{RowImage}
 use Rattle.geo_schema.specs.Rows.{IsRow}
 use Rattle.geo_schema.specs.Schemas.{table_at}
@@ -14,10 +14,6 @@ name_of-requires-clause-row g c =
 
 pub loop-row-preserved : goal.loop-row-preserved
 loop-row-preserved g c =
-    record {
-      base = inr c.removal.ensures.base;
-      removals =
-          pushed (λ (row : Bor RowImage). row.now) (name_in c.args.schema.now c.args.table) (g.R.RowSource.base c.args.source.now) c.args.rows.now c.loop-row.row-index
-          c.row-item.result c.loop-row.removals.items c.push.new.self.items _ c.removal.result
-          c.loop-row-test.true c.row-item.is c.loop-row.invariant.removals c.in_ok-name.ensures c.removal.ensures.value c.in_ok-push.ensures.items;
-    }
+    pushed (λ (row : Bor RowImage). row.now) (name_in c.args.schema.now c.args.table) (g.R.RowSource.base c.args.source.now) c.args.rows.now c.loop-row.row-index
+    c.row-item.result c.loop-row.removals.items c.push.new.self.items _ c.removal.result
+    c.loop-row-test.true c.row-item.is c.loop-row.invariant c.in_ok-name.ensures c.removal.ensures c.in_ok-push.ensures.items

@@ -1,18 +1,13 @@
-use Rattle.std.proofs.Common.{◌≡◌, ℕ, List, [], ◌∷◌, Result, length, map, get_or, sym, ap, subst, ◌∙◌}
-use Rattle.std.specs.List.{filter}
+use Rattle.std.proofs.Common.{◌≡◌, ℕ, List, [], ◌∷◌, Result, length, get_or, sym, ap, subst, ◌∙◌}
 use Rattle.geo_base.specs.Results.{Gives}
 use Rattle.geo_base.specs.declared.cell.Cell.{Cell}
-use Rattle.row_source.specs.Handing.{reaches}
-use Rattle.row_source.specs.Sources.{images}
 use Rattle.row_source.specs.declared.fault.ExecFault.{ExecFault}
 use Rattle.row_source.specs.declared.fault.ExecFault.TheVariants as fault
 use Rattle.sql_exec.proofs.Planned.{planned, the_table}
 use Rattle.sql_exec.proofs.queries.select_by.Goals as goal
-use Rattle.sql_exec.specs.Answers.{answer_of}
-use Rattle.sql_exec.specs.inner.Plain.{plain_answer}
 
-pub plain_answer-requires-clause-plain : goal.plain_answer-requires-clause-plain
-plain_answer-requires-clause-plain g c = (c.requires.query.not_grouped c.requires.ungrouped).1
+pub reached_answer-requires-clause-plain : goal.reached_answer-requires-clause-plain
+reached_answer-requires-clause-plain g c = (c.requires.query.not_grouped c.requires.ungrouped).1
 
 pub returns-clause-answer : goal.returns-clause-answer
 returns-clause-answer g c =
@@ -21,10 +16,5 @@ returns-clause-answer g c =
     let query = c.args.query.now in
     let number : ℕ = get_or c.items.result.now 0 0 in
     let one : query.tables ≡ number ∷ [] = sym c.items.ensures ∙ the_table c.items.result.now 0 (ap length c.items.ensures ∙ c.requires.one) in
-    let handed : map (λ row. row.now) c.as_slice.result.now ≡ images (filter (reaches tables number c.args.plan.first) rows) =
-    rw c.as_slice.ensures.value c.in_ok-rows.ensures.rows in
-    let same : answer_of query rows ≡ plain_answer query.items query.limit query.tests (map (λ row. row.now) c.as_slice.result.now) =
-    planned tables query c.args.plan number rows one c.requires.ungrouped c.requires.unordered c.requires.leaves_out
-    ∙ ap (plain_answer query.items query.limit query.tests) (sym handed) in
-    subst (λ (answer : Result (List (List Cell)) ExecFault). Gives fault.NoMemory (λ (lines : List (List Cell)). lines) c.plain_answer.result answer)
-    (sym same) c.plain_answer.ensures
+    subst (λ (answer : Result (List (List Cell)) ExecFault). Gives fault.NoMemory (λ (lines : List (List Cell)). lines) c.reached_answer.result answer)
+    (sym (planned tables query c.args.plan number rows one c.requires.ungrouped c.requires.unordered c.requires.leaves_out)) c.reached_answer.ensures.answer

@@ -1,13 +1,8 @@
 -- the touches so far
-use Rattle.std.proofs.Common.{◌≡◌, ◌⊎◌, [], map, take}
+use Rattle.std.proofs.Common.{◌≡◌, map, take}
 use Rattle.sql_exec.specs.inner.Naming.{name_in}
 use Rattle.sql_exec.specs.inner.Touching.{touches_by}
-use Rattle.write_set.specs.Sets.{Rises}
 use Rattle.sql_exec.proofs.touching.touches_of.Given as goal
 
 abbrev pub invariant-loop-row : goal.invariant-loop-row
-invariant-loop-row g l =
-    record {
-      base : (l.touches.items ≡ []) ⊎ Rises (g.R.RowSource.base l.source);
-      touches : l.touches.items ≡ touches_by (g.R.RowSource.base l.source) l.own (map (name_in l.schema l.table) (map (λ row. row.now) (take l.row-index l.rows)));
-    }
+invariant-loop-row g l = l.touches.items ≡ touches_by (g.R.RowSource.base l.source) l.own (map (name_in l.schema l.table) (map (λ row. row.now) (take l.row-index l.rows)))

@@ -3,7 +3,6 @@ use Rattle.geo_base.specs.Results.{Gives}
 use Rattle.geo_base.specs.declared.cell.Cell.{Cell}
 use Rattle.row_source.specs.declared.fault.ExecFault.{ExecFault}
 use Rattle.row_source.specs.declared.fault.ExecFault.TheVariants as fault
-use Rattle.sql_exec.proofs.Handed.{handed_rows}
 use Rattle.sql_exec.proofs.Updated.{by_plan}
 use Rattle.sql_exec.proofs.updating.planned_updates.Goals as goal
 use Rattle.sql_plan.specs.Plans.{plan_of}
@@ -12,7 +11,7 @@ use Rattle.write_set.specs.declared.row_change.RowChange.{RowChange}
 pub update_rows-requires-clause-rows : goal.update_rows-requires-clause-rows
 update_rows-requires-clause-rows g c =
     rw c.as_slice.ensures.value
-    (handed_rows c.args.schema.now c.args.query.now.table (g.R.RowSource.rows c.args.source.now) (map (λ image. image.now) c.in_ok-rows.rows.items) c.in_ok-rows.ensures.handed)
+    c.in_ok-rows.ensures.fit
 
 pub returns-clause-changes : goal.returns-clause-changes
 returns-clause-changes g c =
