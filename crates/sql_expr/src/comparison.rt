@@ -6,6 +6,7 @@ ghost use Rattle.sql_expr.specs.Values as values;
 
 use crate::expr::Test;
 use crate::value::{Value, is_null, kind};
+use geo_base::Cell;
 use std::cmp::Ordering;
 
 // How two values are ordered.
@@ -41,6 +42,18 @@ pub(crate) fn compared<'a>(test: Test, a: Value<'a>, b: Value<'a>) -> Value<'a>
         return Value::Null;
     }
     Value::Truth(holds(test, order(a, b)))
+}
+
+/// Whether a test holds of two cells where they stand: NULL, where one of them is.
+#[inline(always)]
+pub(crate) fn compared_cells<'a>(test: Test, a: &Cell, b: &Cell) -> Value<'a>
+    ensures { cell_of result ≡ values.compared test a.now b.now }
+{
+    match (a, b) {
+        (Cell::Int(x), Cell::Int(y)) => Value::Truth(holds(test, x.cmp(y))),
+        (Cell::Null, _) | (_, Cell::Null) => Value::Null,
+        _ => Value::Truth(holds(test, a.cmp(b))),
+    }
 }
 
 /// Whether a value is NULL, or with the flag, whether it isn't.

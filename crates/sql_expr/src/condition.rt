@@ -4,7 +4,7 @@ ghost use Rattle.geo_base.specs.Results.{Matches};
 ghost use Rattle.sql_expr.specs.declared.fault.EvalFault.TheVariants as fault;
 ghost use Rattle.sql_expr.specs.Conditions.{kept};
 
-use crate::evaluation::evaluate;
+use crate::evaluation::evaluate_test;
 use crate::expr::Expr;
 use crate::fault::EvalFault;
 use crate::value::Value;
@@ -19,7 +19,7 @@ pub fn keeps(tests: &[Expr], left: &[Cell], right: &[Cell]) -> Result<bool, Eval
     ensures memory { IfErr result (λ e. e ≢ fault.NoMemory) }
 {
     for test in tests {
-        match evaluate(test, left, right)? {
+        match evaluate_test(test, left, right)? {
             Value::Truth(true) => {}
             _ => return Ok(false),
         }

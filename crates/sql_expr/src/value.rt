@@ -1,5 +1,5 @@
 //! Values on the way, whose texts are borrowed.
-ghost use Rattle.std.specs.Prelude.{◌≡◌, ◌++◌, IfOk, slice_index_or};
+ghost use Rattle.std.specs.Prelude.{◌≡◌, ◌++◌, IfOk, MatchOption, slice_index_or};
 ghost use Rattle.geo_base.specs.Cells.{is_null};
 ghost use Rattle.geo_base.specs.Order.{kind_of};
 ghost use Rattle.geo_base.specs.declared.cell.Cell.TheVariants.{Null};
@@ -29,17 +29,25 @@ pub(crate) fn borrow_cell<'a>(cell: &'a Cell) -> Value<'a>
     }
 }
 
-/// The cell of a column, numbered through the left cells and then the right ones, and NULL behind them.
-pub(crate) fn column<'a>(place: u16, left: &'a [Cell], right: &'a [Cell]) -> Value<'a>
-    ensures { cell_of result ≡ slice_index_or (left.now ++ right.now) place Null }
+/// The cell of a column, numbered through the left cells and then the right ones. There is none behind them.
+#[inline(always)]
+pub(crate) fn cell_at<'a>(place: u16, left: &'a [Cell], right: &'a [Cell]) -> Option<&'a Cell>
+    ensures { MatchOption result (slice_index_or (left.now ++ right.now) place Null ≡ Null) (λ c. slice_index_or (left.now ++ right.now) place Null ≡ c.now) }
 {
     let place = place as usize;
-    let found = if place < left.len() {
+    if place < left.len() {
         left.get(place)
     } else {
         right.get(place - left.len())
-    };
-    match found {
+    }
+}
+
+/// The value of a column, which is NULL behind the cells.
+#[inline(always)]
+pub(crate) fn column<'a>(place: u16, left: &'a [Cell], right: &'a [Cell]) -> Value<'a>
+    ensures { cell_of result ≡ slice_index_or (left.now ++ right.now) place Null }
+{
+    match cell_at(place, left, right) {
         Some(cell) => borrow_cell(cell),
         None => Value::Null,
     }
