@@ -1,5 +1,5 @@
 -- The groups of a query, and what an item is for one.
-use Rattle.std.specs.Prelude.{ℕ, ℤ, pos, ◌+ℤ◌, not, Option, Some, None, Result, Ok, List, [], ◌∷◌, filter, length, map, unwrap_or}
+use Rattle.std.specs.Prelude.{ℕ, ℤ, pos, ◌+ℤ◌, not, Result, Ok, List, [], ◌∷◌, filter, length, map, unwrap_or}
 use Rattle.std.specs.BTreeSet.{insert_key}
 use Rattle.std.specs.List.{reduce}
 use Rattle.std.specs.Ordering.{is_eq, max_by_ordering, min_by_ordering}

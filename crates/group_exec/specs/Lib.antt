@@ -1,3 +1,4 @@
 pub mod Groups
 pub mod Results
+pub mod inner
 pub mod laws

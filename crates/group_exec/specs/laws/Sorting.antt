@@ -10,6 +10,17 @@ use Rattle.group_exec.specs.Results.{LineOfRow, by_all, ordered, put_in}
 use Rattle.group_exec.specs.laws.Orders.{greater_is_less, is_less, less_is_weak}
 use Rattle.group_exec.specs.laws.Stable.{same_sorted, sorted_front, sorted_more, sorted_none, sorted_one, sorted_rest, tied_both}
 
+-- ---- without ORDER BY
+
+stays : (l : LineOfRow) (lines : List LineOfRow) → put_in [] l lines ≡ l ∷ lines
+stays l [] = refl
+stays l (m ∷ lines) = refl
+
+-- the lines stay as they are
+pub unordered : (lines : List LineOfRow) → ordered [] lines ≡ lines
+unordered [] = refl
+unordered (l ∷ lines) = ap (put_in [] l) (unordered lines) ∙ stays l lines
+
 module _ (sorts : List Sort) where
   abbrev Lines : Type 0
   Lines = List LineOfRow

@@ -1,0 +1,6 @@
+mod Answers
+mod Making
+mod Numbers
+mod Running
+mod Runs
+mod Sides
