@@ -22,4 +22,5 @@ mod pair;
 mod store;
 
 pub use laws::{keys_in_a_range_are_one_list, ranges_find_every_row};
+pub use pair::IndexPair;
 pub use store::IndexStore;

@@ -12,15 +12,15 @@ use std::cmp::Ordering;
 
 /// That a row has certain cells in the columns of an index. The order is by index, then by the cells, and then by key.
 #[derive(Drop)]
-pub(crate) struct IndexPair {
+pub struct IndexPair {
     /// The table of the row and of the index.
-    pub(crate) table: TableNo,
+    pub table: TableNo,
     /// The place of the index in its table.
-    pub(crate) index: u8,
+    pub index: u8,
     /// The cells in the columns of the index, in its order.
-    pub(crate) cells: CellList,
+    pub cells: CellList,
     /// The key of the row.
-    pub(crate) key: Key,
+    pub key: Key,
 }
 
 impl Duplicate for IndexPair {

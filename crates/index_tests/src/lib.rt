@@ -5,17 +5,11 @@
 #![tactic(auto)]
 
 #[cfg(test)]
-mod cells;
-#[cfg(test)]
-mod changes;
-#[cfg(test)]
 mod epochs;
 #[cfg(test)]
 mod plain_versions;
 #[cfg(test)]
 mod playing;
-#[cfg(test)]
-mod ranges;
 #[cfg(test)]
 mod tables;
 #[cfg(test)]

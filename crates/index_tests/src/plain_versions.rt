@@ -39,7 +39,7 @@ impl PlainVersions {
     }
 
     /// The row's image ends before the present epoch, and it has the one that the change leaves.
-    fn change(&mut self, alloc: Global, row: &RowId, change: &Change) -> Result<(), NoMemory> {
+    pub fn change(&mut self, alloc: Global, row: &RowId, change: &Change) -> Result<(), NoMemory> {
         match change {
             Change::Put(image) => {
                 self.end(row);
@@ -52,18 +52,6 @@ impl PlainVersions {
             }
             Change::Remove => self.end(row),
             Change::Touch => {}
-        }
-        Ok(())
-    }
-
-    /// The rows have the images that the changes leave, one after another.
-    pub fn change_all(
-        &mut self,
-        alloc: Global,
-        changes: &[(RowId, Change)],
-    ) -> Result<(), NoMemory> {
-        for change in changes {
-            self.change(alloc, &change.0, &change.1)?;
         }
         Ok(())
     }

@@ -1,18 +1,17 @@
 //! Playing lines: epochs are applied, the horizon is moved, and ranges are asked for.
 //!
-//! `epoch BATCHES` applies the next epoch, and `rows FIRST LAST OWNER` one in which a candidate puts the rows of table 0
+//! Changes, batches and ranges are written as `index_kit` reads them. `epoch BATCHES` applies the next epoch, and `rows FIRST LAST OWNER` one in which a candidate puts the rows of table 0
 //! with the keys from the first to the last. `trim N` moves the horizon, and `fork` keeps a fork of the store. `ask
 //! TABLE INDEX RANGE` asks the store, and `old TABLE INDEX RANGE` the fork; the keys that it is to tell, or `none`, stand
 //! behind ` => `.
 use crate::epochs::apply;
 use crate::plain_versions::PlainVersions;
-use crate::ranges::range_of;
 use crate::tables::schema_of;
 use geo_base::{Key, print_row};
 use geo_schema::Schema;
+use index_kit::{puts_of, range_of};
 use index_store::IndexStore;
 use std::alloc::Global;
-use std::fmt::Write;
 use std::mem::swap;
 use std::test::Fail;
 use write_set::KeptVersions;
@@ -24,21 +23,6 @@ struct Played<'a> {
     versions: PlainVersions,
     store: IndexStore,
     fork: IndexStore,
-}
-
-/// The text of a candidate that puts the rows of table 0 with the keys from one to another, each with the owner, and its
-/// key as the amount.
-fn rows_of(alloc: Global, words: &str) -> Result<String, Fail> {
-    let (first, rest) = words.split_once(' ').ok_or("no last row")?;
-    let (last, owner) = rest.split_once(' ').ok_or("no owner")?;
-    let (first, last): (u32, u32) = (first.parse()?, last.parse()?);
-    let mut text = String::new(alloc);
-    let mut between = "";
-    for key in first..=last {
-        write!(text, "{between}0 {key} -> {key} {owner} {key}")?;
-        between = " & ";
-    }
-    Ok(text)
 }
 
 /// Moves the horizon up to the epoch.
@@ -103,7 +87,7 @@ fn answer(alloc: Global, played: &mut Played, line: &str) -> Result<String, Fail
             words,
         )?,
         "rows" => {
-            let text = rows_of(alloc, words)?;
+            let text = puts_of(alloc, words)?;
             apply(
                 alloc,
                 played.schema,

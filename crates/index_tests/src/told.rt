@@ -2,14 +2,14 @@
 use crate::playing::play;
 use std::test::Fail;
 
-const ONE_INDEX: &str = "acc (id INT KEY, owner INT, amount INT) / by_owner 1";
+const ONE_INDEX: &str = "acc|id I,owner i,amount i|0|by_owner 1";
 
 const TWO_TABLES: &str = "\
-acc (id INT KEY, owner INT, amount INT) / by_both 12 / by_amount 2
-man (id INT KEY, name TEXT(8), age INT) / by_name 1";
+acc|id I,owner i,amount i|0|by_both 12,by_amount 2
+man|id I,name t,age i|0|by_name 1";
 
 const WITH_UNIQUE: &str = "\
-acc (id INT KEY, owner INT, amount INT) / by_owner 1
+acc|id I,owner i,amount i|0|by_owner 1
 unique one 1";
 
 /// Versions 1 and 2 of row 1 have one pair, and so have 1 and 3 of row 2: version 2 of row 2 has another.

@@ -7,7 +7,8 @@ mod nets;
 mod rows;
 mod tables;
 
+pub use cells::cells_of;
 pub use laying::{Laid, lay_over};
 pub use nets::net_of;
 pub use rows::{are_rows, rows_of};
-pub use tables::schema_of;
+pub use tables::{schema_of, tables_of};

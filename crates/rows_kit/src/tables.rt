@@ -85,11 +85,16 @@ fn table_of(alloc: Global, text: &str) -> Result<TableDef, Fail> {
     })
 }
 
-/// The schema of the tables of a text.
-pub fn schema_of(alloc: Global, text: &str) -> Result<Schema, Fail> {
+/// The tables of a text.
+pub fn tables_of(alloc: Global, text: &str) -> Result<Vec<TableDef>, Fail> {
     let mut tables = Vec::new(alloc);
     for line in text.lines() {
         tables.push(table_of(alloc, line)?)?;
     }
-    Ok(Schema::new(alloc, tables)?)
+    Ok(tables)
+}
+
+/// The schema of the tables of a text.
+pub fn schema_of(alloc: Global, text: &str) -> Result<Schema, Fail> {
+    Ok(Schema::new(alloc, tables_of(alloc, text)?)?)
 }

@@ -1,0 +1,10 @@
+mod Between
+mod Listed
+mod Looked
+mod Merged
+mod Named
+mod Overlaid
+mod Parted
+mod Places
+mod Seen
+mod Tested

@@ -1,0 +1,4 @@
+pub mod Snapshots
+pub mod Views
+pub mod inner
+pub mod laws
