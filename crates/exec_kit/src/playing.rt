@@ -8,6 +8,7 @@ use crate::asking::print_text;
 use crate::counted::Counted;
 use crate::repeating::repeated;
 use crate::sample::{ROWS, TABLES};
+use geo_base::Duplicate;
 use geo_schema::Schema;
 use row_source::{ListSource, Steps};
 use rows_kit::{are_rows, lay_over, net_of, rows_of, schema_of};
@@ -56,6 +57,28 @@ struct Texts {
 
 /// Writes what the statement is answered behind the net, in which its changes are made, and answers how many rows it is
 /// handed.
+fn print_one<L: Ledger>(
+    out: &mut String,
+    alloc: Global,
+    schema: &Schema,
+    source: &Counted,
+    own: &mut WriteSet,
+    text: &str,
+    steps: &mut Steps<L>,
+) -> Result<usize, Fail>
+    requires schema { source.now.list.tables ≡ schema.now }
+    requires rows { AreRowsOf schema.now source.now.list.rows }
+    requires laid { source.now.list.rows ≡ overlay source.now.list.base own.old }
+    requires base { Rises source.now.list.base }
+{
+    out.clear();
+    let printed = print_text(out, alloc, schema, source, own, text, steps);
+    let count = source.take_count();
+    printed?;
+    Ok(count)
+}
+
+/// The same over the rows of the text with the net laid over them.
 fn print_next<L: Ledger>(
     out: &mut String,
     alloc: Global,
@@ -66,16 +89,13 @@ fn print_next<L: Ledger>(
     steps: &mut Steps<L>,
 ) -> Result<usize, Fail> {
     let source = source_of(alloc, schema, rows, own)?;
-    let printed = print_text(out, alloc, schema, &source, own, text, steps);
-    let count = source.take_count();
+    let count = print_one(out, alloc, schema, &source, own, text, steps);
     drop(source);
-    printed?;
-    Ok(count)
+    count
 }
 
-/// Writes what the last of the statements is answered, each behind the net that those before it have left, and answers how
-/// many rows it is handed.
-fn print_last<L: Ledger>(
+/// The same of the last of the statements, each behind the net that those before it have left.
+fn print_rest<L: Ledger>(
     out: &mut String,
     alloc: Global,
     schema: &Schema,
@@ -86,25 +106,55 @@ fn print_last<L: Ledger>(
 ) -> Result<usize, Fail> {
     let mut count = 0;
     for text in statements.split(';') {
-        out.clear();
         count = print_next(out, alloc, schema, rows, own, text, steps)?;
     }
     Ok(count)
 }
 
-/// What the last statement of the line is answered, and in front of it how many rows it is handed.
+/// The same where the net is laid over the source's rows, over which the first statement is.
+fn print_last<L: Ledger>(
+    out: &mut String,
+    alloc: Global,
+    schema: &Schema,
+    rows: &str,
+    source: &Counted,
+    own: &mut WriteSet,
+    statements: &str,
+    steps: &mut Steps<L>,
+) -> Result<usize, Fail>
+    requires schema { source.now.list.tables ≡ schema.now }
+    requires rows { AreRowsOf schema.now source.now.list.rows }
+    requires laid { source.now.list.rows ≡ overlay source.now.list.base own.old }
+    requires base { Rises source.now.list.base }
+{
+    let Some((first, rest)) = statements.split_once(';') else {
+        return print_one(out, alloc, schema, source, own, statements, steps);
+    };
+    print_one(out, alloc, schema, source, own, first, steps)?;
+    print_rest(out, alloc, schema, rows, own, rest, steps)
+}
+
+/// What the last of the statements is answered, and in front of it how many rows it is handed. The net stays as it is.
 fn answer<L: Ledger>(
     alloc: Global,
     schema: &Schema,
-    texts: &Texts,
+    rows: &str,
+    source: &Counted,
+    own: &WriteSet,
     statements: &str,
     steps: &mut Steps<L>,
-) -> Result<String, Fail> {
+) -> Result<String, Fail>
+    requires schema { source.now.list.tables ≡ schema.now }
+    requires rows { AreRowsOf schema.now source.now.list.rows }
+    requires laid { source.now.list.rows ≡ overlay source.now.list.base own.now }
+    requires base { Rises source.now.list.base }
+{
     let mut out = String::new(alloc);
-    let mut own = net_of(alloc, schema, texts.net.as_str())?;
-    let rows = texts.rows.as_str();
-    let count = print_last(&mut out, alloc, schema, rows, &mut own, statements, steps);
-    drop(own);
+    let mut net = own.copy(alloc)?;
+    let count = print_last(
+        &mut out, alloc, schema, rows, source, &mut net, statements, steps,
+    );
+    drop(net);
     let count = count?;
     Ok(format!(in alloc; "{count}:{out}")?)
 }
@@ -113,16 +163,45 @@ fn answer<L: Ledger>(
 fn wrong<L: Ledger>(
     alloc: Global,
     schema: &Schema,
-    texts: &Texts,
+    rows: &str,
+    source: &Counted,
+    own: &WriteSet,
     line: &str,
     steps: &mut Steps<L>,
-) -> Result<Option<String>, Fail> {
+) -> Result<Option<String>, Fail>
+    requires schema { source.now.list.tables ≡ schema.now }
+    requires rows { AreRowsOf schema.now source.now.list.rows }
+    requires laid { source.now.list.rows ≡ overlay source.now.list.base own.now }
+    requires base { Rises source.now.list.base }
+{
     let (statements, want) = line.split_once(" => ").ok_or("a line without an answer")?;
-    let found = answer(alloc, schema, texts, statements, steps)?;
+    let found = answer(alloc, schema, rows, source, own, statements, steps)?;
     if found.as_str() == want {
         return Ok(None);
     }
     Ok(Some(format!(in alloc; "found {found} in {line}")?))
+}
+
+fn first_wrong_of<L: Ledger>(
+    alloc: Global,
+    schema: &Schema,
+    texts: &Texts,
+    source: &Counted,
+    own: &WriteSet,
+    steps: &mut Steps<L>,
+) -> Result<Option<String>, Fail>
+    requires schema { source.now.list.tables ≡ schema.now }
+    requires rows { AreRowsOf schema.now source.now.list.rows }
+    requires laid { source.now.list.rows ≡ overlay source.now.list.base own.now }
+    requires base { Rises source.now.list.base }
+{
+    let rows = texts.rows.as_str();
+    for line in texts.lines.lines() {
+        if let Some(wrong) = wrong(alloc, schema, rows, source, own, line, steps)? {
+            return Ok(Some(wrong));
+        }
+    }
+    Ok(None)
 }
 
 /// The first line that is wrong over the schema.
@@ -132,12 +211,12 @@ fn first_wrong_over<L: Ledger>(
     texts: &Texts,
     steps: &mut Steps<L>,
 ) -> Result<Option<String>, Fail> {
-    for line in texts.lines.lines() {
-        if let Some(wrong) = wrong(alloc, schema, texts, line, steps)? {
-            return Ok(Some(wrong));
-        }
-    }
-    Ok(None)
+    let own = net_of(alloc, schema, texts.net.as_str())?;
+    let source = source_of(alloc, schema, texts.rows.as_str(), &own)?;
+    let found = first_wrong_of(alloc, schema, texts, &source, &own, steps);
+    drop(source);
+    drop(own);
+    found
 }
 
 fn first_wrong_on<L: Ledger>(
