@@ -175,8 +175,9 @@ impl Versions {
     /// Applies the next epoch: of its batches, one for each region in their order, the changes of those candidates
     /// that the outcomes say to commit. Without memory nothing changes.
     ///
-    /// Takes a step for each candidate, and for each row that changes two searches, a copy of its name and image, and
-    /// one of a page of rows, with their keys and the pointers to their versions.
+    /// Takes a step for each candidate, and for each row that changes two searches, a copy of its name and image, a step
+    /// for each of its versions that are kept, and a copy of a page of rows, with their keys and the pointers to their
+    /// versions.
     pub fn apply_epoch(
         &mut self,
         epoch: Epoch,
