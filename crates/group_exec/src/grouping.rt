@@ -91,9 +91,11 @@ fn within_limit(alloc: Global, lines: Vec<Made>) -> Result<LineList, ExecFault>
 /// its items, row by row and from left to right; and then [`ExecFault::ResultTooLong`], where LIMIT leaves more than
 /// [`MAX_LINES`] lines. LIMIT spares no evaluation. [`ExecFault::NoMemory`] may come at any time.
 ///
-/// The cost is that of evaluating the items or arguments once for each row, and for groups and for ORDER BY that of a
-/// sort: rows times their logarithm times the columns sorted by, whatever the number of groups. What is sorted are
-/// handles of three words; a row is lent, and of its cells only those are copied that stand in a line.
+/// The cost is that of evaluating the items, or in a grouped query the arguments, once for each row; and for groups, and
+/// again for ORDER BY, that of a sort: rows times their logarithm times the columns sorted by, whatever the number of
+/// groups. Each aggregate takes a step for each row. What is sorted are handles of four words: no row is copied, and
+/// of its cells only those that are an argument or stand in a line. The memory is a cell for each item and row, and in
+/// a grouped query also for each item and group.
 #[tactic(auto, unfolding(crate::specs::Results::result_of))]
 pub fn group(alloc: Global, query: &BoundSelect, pairs: &[Pair]) -> Result<LineList, ExecFault>
     requires some { 1 ≤ length query.now.items }
