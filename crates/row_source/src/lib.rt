@@ -19,7 +19,7 @@ mod steps;
 
 pub use evaluation::{passes, value};
 pub use fault::ExecFault;
-pub use laws::names_are_of_one_row;
+pub use laws::{names_are_of_one_row, points_have_one_row};
 pub use list_source::{ListSource, RowImageAt};
 pub use pair::Pair;
 pub use plan::{Access, JoinKind, KeyPart, KeyPartList, Plan, Second};
