@@ -1,5 +1,5 @@
 -- What the code finds for a column, as the definitions have it.
-use Rattle.std.proofs.Common.{map, ◌≡◌, ℕ, ◌+◌, ◌<◌, Bool, false, Option, Some, None, List, [], ◌∷◌, ◌++◌, length, get_or, drop, refl, sym, ap, ◌∙◌}
+use Rattle.std.proofs.Common.{map, ◌≡◌, ℕ, suc, ◌+◌, ◌<◌, Bool, false, Option, Some, None, List, [], ◌∷◌, ◌++◌, length, get_or, drop, refl, sym, ap, ◌∙◌, arith}
 use Rattle.std.specs.List.{position, slice_get}
 use Rattle.std.specs.Option.{option_and_then, option_or}
 use Rattle.std.proofs.Math.Seq.{drop-length}
@@ -41,39 +41,64 @@ next_at says ts columns n o count is = ap (option_and_then (first_test says ts))
 
 -- ---- the cells that leading columns are equal to
 
-map_behind : {X Y : Type 0} (see : X → Y) (xs : List X) (x : X) → map see (xs ++ x ∷ []) ≡ map see xs ++ see x ∷ []
-map_behind see [] x = refl
-map_behind see (y ∷ xs) x = ap (λ rest. see y ∷ rest) (map_behind see xs x)
-
-module _ {X : Type 0} (see : X → Cell) (ts : List tests.ColumnTest) (columns : List ℕ) where
+module _ (ts : List tests.ColumnTest) (columns : List ℕ) where
   next_column : (i d : ℕ) (before : List Cell) (o : Option Cell) → i < length columns → o ≡ equal_cell ts (get_or columns i d) →
       before ++ fixed_cells ts (drop i columns) ≡ fixed_cells ts columns → before ++ in_front o (fixed_cells ts (drop (i + 1) columns)) ≡ fixed_cells ts columns
   next_column i d before o within is so_far =
       ap (λ (c : Option Cell). before ++ in_front c (fixed_cells ts (drop (i + 1) columns))) is
       ∙ (ap (λ (left : List ℕ). before ++ fixed_cells ts left) (sym (drop_more columns i d within)) ∙ so_far)
 
-  pub one_fixed : (i d : ℕ) (before : List X) (x : X) → i < length columns → Some (see x) ≡ equal_cell ts (get_or columns i d) →
-      map see before ++ fixed_cells ts (drop i columns) ≡ fixed_cells ts columns →
-      map see (before ++ x ∷ []) ++ fixed_cells ts (drop (i + 1) columns) ≡ fixed_cells ts columns
-  one_fixed i d before x within is so_far =
-      ap (λ (front : List Cell). front ++ fixed_cells ts (drop (i + 1) columns)) (map_behind see before x)
-      ∙ (append_assoc (map see before) (see x ∷ []) (fixed_cells ts (drop (i + 1) columns))
-      ∙ next_column i d (map see before) (Some (see x)) within is so_far)
+  none_left : (i : ℕ) → i ≡ length columns → fixed_cells ts (drop i columns) ≡ []
+  none_left i all = ap (λ (left : List ℕ). fixed_cells ts left) (ap (λ (n : ℕ). drop n columns) all ∙ drop-length columns)
 
-  pub not_fixed : (i d : ℕ) (before : List X) → i < length columns → None ≡ equal_cell ts (get_or columns i d) →
-      map see before ++ fixed_cells ts (drop i columns) ≡ fixed_cells ts columns → map see before ≡ fixed_cells ts columns
-  not_fixed i d before within is so_far = sym (append-nil (map see before)) ∙ next_column i d (map see before) None within is so_far
+  pub one_fixed : (i d : ℕ) (before : List Cell) (c : Cell) → i < length columns → Some c ≡ equal_cell ts (get_or columns i d) →
+      before ++ fixed_cells ts (drop i columns) ≡ fixed_cells ts columns →
+      (before ++ c ∷ []) ++ fixed_cells ts (drop (i + 1) columns) ≡ fixed_cells ts columns
+  one_fixed i d before c within is so_far =
+      append_assoc before (c ∷ []) (fixed_cells ts (drop (i + 1) columns)) ∙ next_column i d before (Some c) within is so_far
 
-  pub all_fixed : (i : ℕ) (before : List X) → i ≡ length columns →
-      map see before ++ fixed_cells ts (drop i columns) ≡ fixed_cells ts columns → map see before ≡ fixed_cells ts columns
-  all_fixed i before all so_far =
-      sym (append-nil (map see before))
-      ∙ (ap (λ (left : List ℕ). map see before ++ fixed_cells ts left) (sym (ap (λ (n : ℕ). drop n columns) all ∙ drop-length columns)) ∙ so_far)
+  pub not_fixed : (i d : ℕ) (before : List Cell) → i < length columns → None ≡ equal_cell ts (get_or columns i d) →
+      before ++ fixed_cells ts (drop i columns) ≡ fixed_cells ts columns → before ≡ fixed_cells ts columns
+  not_fixed i d before within is so_far = sym (append-nil before) ∙ next_column i d before None within is so_far
+
+  pub all_fixed : (i : ℕ) (before : List Cell) → i ≡ length columns → before ++ fixed_cells ts (drop i columns) ≡ fixed_cells ts columns → before ≡ fixed_cells ts columns
+  all_fixed i before all so_far = sym (append-nil before) ∙ (ap (λ (left : List Cell). before ++ left) (sym (none_left i all)) ∙ so_far)
+
+  -- ---- how many they are
+
+  next_counted : (i d n : ℕ) (o : Option Cell) → i < length columns → o ≡ equal_cell ts (get_or columns i d) →
+      n + length (fixed_cells ts (drop i columns)) ≡ length (fixed_cells ts columns) → n + length (in_front o (fixed_cells ts (drop (i + 1) columns))) ≡ length (fixed_cells ts columns)
+  next_counted i d n o within is so_far =
+      ap (λ (c : Option Cell). n + length (in_front c (fixed_cells ts (drop (i + 1) columns)))) is
+      ∙ (ap (λ (left : List ℕ). n + length (fixed_cells ts left)) (sym (drop_more columns i d within)) ∙ so_far)
+
+  pub one_counted : (i d n : ℕ) (c : Cell) → i < length columns → Some c ≡ equal_cell ts (get_or columns i d) →
+      n + length (fixed_cells ts (drop i columns)) ≡ length (fixed_cells ts columns) → (n + 1) + length (fixed_cells ts (drop (i + 1) columns)) ≡ length (fixed_cells ts columns)
+  one_counted i d n c within is so_far =
+      let next : n + suc (length (fixed_cells ts (drop (i + 1) columns))) ≡ length (fixed_cells ts columns) = next_counted i d n (Some c) within is so_far in
+      omega arith
+
+  pub not_counted : (i d n : ℕ) → i < length columns → None ≡ equal_cell ts (get_or columns i d) →
+      n + length (fixed_cells ts (drop i columns)) ≡ length (fixed_cells ts columns) → n ≡ length (fixed_cells ts columns)
+  not_counted i d n within is so_far =
+      let last : n + 0 ≡ length (fixed_cells ts columns) = next_counted i d n None within is so_far in
+      omega arith
+
+  pub all_counted : (i n : ℕ) → i ≡ length columns → n + length (fixed_cells ts (drop i columns)) ≡ length (fixed_cells ts columns) → n ≡ length (fixed_cells ts columns)
+  all_counted i n all so_far =
+      let last : length (fixed_cells ts (drop i columns)) ≡ 0 = ap length (none_left i all) in
+      omega arith
 
 -- ---- an index of a table
 
 pub index_is : (table : TableDef) (place : ℕ) (d : IndexDef) → place < length table.indexes → get_or table.indexes place d ≡ index_at table place
 index_is table place d within = get_or_default table.indexes place d no_index within
+
+pub fixed_chosen : (table : TableDef) (ts : List tests.ColumnTest) (indexes : List IndexDef) (place : ℕ) → indexes ≡ table.indexes →
+    Some place ≡ position (λ index. first_is (is_fixed ts) index.columns) indexes → Some place ≡ index_choice table ts
+fixed_chosen table ts indexes place same is =
+    ap (λ (f : Option ℕ). option_or f (position (λ index. first_is (is_bounded ts) index.columns) table.indexes))
+    (is ∙ ap (position (λ (index : IndexDef). first_is (is_fixed ts) index.columns)) same)
 
 pub index_chosen : (table : TableDef) (ts : List tests.ColumnTest) (indexes : List IndexDef) (o : Option ℕ) → indexes ≡ table.indexes →
     None ≡ position (λ index. first_is (is_fixed ts) index.columns) indexes → o ≡ position (λ index. first_is (is_bounded ts) index.columns) indexes → o ≡ index_choice table ts

@@ -1,18 +1,20 @@
 -- What the code goes through, as the definitions list it.
-use Rattle.std.proofs.Common.{map, ◌++◌, ◌+◌, get_or, option_to_list, ◌≡◌, ℕ, ◌<◌, ◌≤◌, Bool, true, false, not, ◌&&◌, cond, nat_eq, nat_lt, if◌then◌else◌, Option, Some, None, List, [], ◌∷◌, length, take, refl, sym, ap, ◌∙◌}
-use Rattle.std.specs.List.{cons_option, filter, filter_map, find, position, prefix_len}
-use Rattle.std.specs.Option.{is_some, option_map}
+use Rattle.std.proofs.Common.{map, ◌++◌, ◌+◌, drop, get_or, option_to_list, ◌≡◌, ℕ, ◌<◌, ◌≤◌, Bool, true, false, not, ◌&&◌, cond, nat_eq, nat_lt, if◌then◌else◌, Option, Some, None, List, [], ◌∷◌, length, take, refl, sym, ap, ◌∙◌}
+use Rattle.std.specs.List.{cons_option, filter, filter_map, position, prefix_len}
+use Rattle.std.specs.Option.{is_some, option_map, option_or}
+use Rattle.std.proofs.Math.Seq.{drop-length}
 use Rattle.std.proofs.lemmas.Bool.{ltb-false}
-use Rattle.std.proofs.lemmas.List.{take_all, take_more}
+use Rattle.std.proofs.lemmas.List.{drop_more, take_all, take_more}
 use Rattle.std.proofs.lemmas.List.Elements.{filter_map-append}
 use Rattle.std.proofs.lemmas.Option.{cond_some}
 use Rattle.sql_expr.specs.declared.expr.Expr.{Expr, out-Expr}
 use Rattle.sql_plan.specs.Plans.{first_test}
 use Rattle.sql_plan.specs.Tests as tests
 use Rattle.sql_plan.specs.Tests.{calculates, column_test_in, column_tests, counted_from, is_among, safe_tests, tests_of}
+use Rattle.sql_expr.specs.declared.expr.Test.{Test}
 use Rattle.sql_plan.specs.declared.tests.ColumnTest.{ColumnTest}
-use Rattle.sql_plan.specs.declared.tests.TestKind.{TestKind}
-use Rattle.sql_plan.specs.inner.Borrowed.{placed, said_by, seen, test_of}
+use Rattle.sql_plan.specs.declared.tests.TableTests.{TableTests}
+use Rattle.sql_plan.specs.inner.Borrowed.{placed, seen, such, test_of, usable}
 
 -- ---- the safe tests
 
@@ -53,21 +55,48 @@ pub all_tests : (first count : ℕ) (es : List Expr) → filter_map (test_of fir
 unfolding column_tests
 all_tests first count es = fused first count (safe_tests es)
 
+-- the usable tests, as the code holds them
+pub usable_are : (t : TableTests) (es : List Expr) → t.safe.now ≡ safe_tests es → usable t ≡ tests_of t.first t.count (column_tests es)
+unfolding usable
+usable_are t es is = ap (filter_map (test_of t.first t.count)) is ∙ all_tests t.first t.count es
+
 -- ---- the first test of a kind
-
-seen_by : (b : Bool) (t : ColumnTest) (r : Option ColumnTest) (s : Option tests.ColumnTest) → option_map seen r ≡ s →
-    option_map seen (cond b (Some t) r) ≡ cond b (Some (seen t)) s
-seen_by true t r s h = refl
-seen_by false t r s h = h
-
-pub find_seen : (kind : TestKind) (ts : List ColumnTest) (column : ℕ) →
-    option_map seen (find (λ t. nat_eq t.column column && said_by kind t.test) ts) ≡ first_test (said_by kind) (map seen ts) column
-find_seen kind [] column = refl
-find_seen kind (t ∷ ts) column = seen_by (nat_eq t.column column && said_by kind t.test) t _ _ (find_seen kind ts column)
 
 pub some_seen : (o : Option ColumnTest) → is_some o ≡ is_some (option_map seen o)
 some_seen None = refl
 some_seen (Some t) = refl
+
+module _ (says : Test → Bool) (column : ℕ) (by : Expr → Option tests.ColumnTest) where
+  abbrev first_in : List Expr → Option tests.ColumnTest
+  first_in es = first_test says (filter_map by es) column
+
+  one_first : (o : Option tests.ColumnTest) (rest : List tests.ColumnTest) →
+      first_test says (cons_option o rest) column ≡ option_or (such says column o) (first_test says rest column)
+  one_first None rest = refl
+  one_first (Some t) rest = split (nat_eq t.column column && says t.test)
+    where
+      split : (b : Bool) → cond b (Some t) (first_test says rest column) ≡ option_or (if b then Some t else None) (first_test says rest column)
+      split true = refl
+      split false = refl
+
+  here : (es : List Expr) (i : ℕ) (e : Expr) → i < length es → e ≡ get_or es i e →
+      first_in (drop i es) ≡ option_or (such says column (by e)) (first_in (drop (i + 1) es))
+  here es i e within is =
+      ap first_in (drop_more es i e within) ∙ (one_first (by (get_or es i e)) (filter_map by (drop (i + 1) es))
+      ∙ ap (λ (x : Expr). option_or (such says column (by x)) (first_in (drop (i + 1) es))) (sym is))
+
+  pub found_first : (es : List Expr) (i : ℕ) (e : Expr) (t : tests.ColumnTest) → i < length es → e ≡ get_or es i e → Some t ≡ such says column (by e) →
+      first_in (drop i es) ≡ first_in es → Some t ≡ first_in es
+  found_first es i e t within is said so_far =
+      sym (here es i e within is ∙ ap (λ (o : Option tests.ColumnTest). option_or o (first_in (drop (i + 1) es))) (sym said)) ∙ so_far
+
+  pub not_first : (es : List Expr) (i : ℕ) (e : Expr) → i < length es → e ≡ get_or es i e → None ≡ such says column (by e) →
+      first_in (drop i es) ≡ first_in es → first_in (drop (i + 1) es) ≡ first_in es
+  not_first es i e within is said so_far =
+      sym (here es i e within is ∙ ap (λ (o : Option tests.ColumnTest). option_or o (first_in (drop (i + 1) es))) (sym said)) ∙ so_far
+
+  pub none_first : (es : List Expr) (i : ℕ) → i ≡ length es → first_in (drop i es) ≡ first_in es → None ≡ first_in es
+  none_first es i all so_far = sym (ap first_in (ap (λ (n : ℕ). drop n es) all ∙ drop-length es)) ∙ so_far
 
 -- ---- one thing more
 

@@ -1,5 +1,5 @@
 -- No cell of a usable test is NULL, so those that all columns of a key are equal to make a key.
-use Rattle.std.proofs.Common.{map, ◌≡◌, ℕ, Bool, true, false, ◌||◌, nat_eq, ◌&&◌, if◌then◌else◌, Option, Some, None, List, [], ◌∷◌, length, refl, sym, ap, ◌∙◌, subst}
+use Rattle.std.proofs.Common.{map, ◌≡◌, ℕ, Bool, true, false, ◌||◌, nat_eq, ◌&&◌, if◌then◌else◌, Option, Some, None, List, [], ◌∷◌, length, refl, sym, subst}
 use Rattle.std.specs.List.{All, cons_option, filter, filter_map}
 use Rattle.std.specs.Option.{option_map}
 use Rattle.std.proofs.lemmas.List.Elements.{All-nil, All-cons, All-head, All-tail}
@@ -105,10 +105,8 @@ module _ (ts : List ColumnTest) (whole : All IsWhole ts) where
         whole = none_found is_null (fixed_cells ts table.key) Null (λ k within. fixed_whole table.key k Null within);
       })
 
--- the same of a table by the rules, and of what the code holds
-pub fixed_fault : (table : TableDef) (ts : List ColumnTest) → All IsWhole ts → IsTable table → (key : List ℕ) (cells : List Cell) → key ≡ table.key → cells ≡ fixed_cells ts key →
-    length cells ≡ length key → key_fault cells ≡ None
-fixed_fault table ts whole rules key cells same is count =
-    let e : cells ≡ fixed_cells ts table.key = is ∙ ap (fixed_cells ts) same in
-    let n : length (fixed_cells ts table.key) ≡ length table.key = ap length (sym e) ∙ (count ∙ ap length same) in
-    ap key_fault e ∙ fixed_key ts whole table rules.rows n
+-- the same of a table by the rules, whose key the code holds
+pub fixed_fault : (table : TableDef) (ts : List ColumnTest) → All IsWhole ts → IsTable table → (key : List ℕ) → key ≡ table.key →
+    length (fixed_cells ts key) ≡ length key → key_fault (fixed_cells ts key) ≡ None
+fixed_fault table ts whole rules key same count =
+    subst (λ (k : List ℕ). length (fixed_cells ts k) ≡ length k → key_fault (fixed_cells ts k) ≡ None) (sym same) (fixed_key ts whole table rules.rows) count

@@ -4,11 +4,11 @@ ghost use Rattle.std.specs.List.{find, list_any};
 ghost use Rattle.std.specs.Option.{option_copied, option_map};
 ghost use Rattle.row_source.specs.declared.plan.KeyPart.TheVariants as part;
 ghost use Rattle.sql_plan.specs.Plans as plans;
-ghost use Rattle.sql_plan.specs.inner.Borrowed.{seen, seen_link};
+ghost use Rattle.sql_plan.specs.inner.Borrowed.{seen_link, usable};
 
 use crate::links::Link;
 use crate::ranges::equal_cell;
-use crate::tests::ColumnTest;
+use crate::tests::TableTests;
 use geo_base::{Duplicate, Many, NoMemory};
 use geo_schema::TableDef;
 use row_source::{JoinKind, KeyPart};
@@ -45,11 +45,11 @@ fn left_part(column: Option<u16>) -> Option<KeyPart>
 /// What the column of the right key is equal to: a literal before a left column.
 fn part_of(
     alloc: Global,
-    tests: &[ColumnTest],
+    tests: &TableTests,
     links: &[Link],
     column: u8,
 ) -> Result<Option<KeyPart>, NoMemory>
-    ensures { IfOk result (λ part. part ≡ plans.part_of (map seen tests.now) (map seen_link links.now) column) }
+    ensures { IfOk result (λ part. part ≡ plans.part_of (usable tests.now) (map seen_link links.now) column) }
 {
     match equal_cell(tests, column) {
         Some(literal) => Ok(Some(KeyPart::Lit(literal.copy(alloc)?))),
@@ -61,11 +61,11 @@ fn part_of(
 #[tactic(auto, using(crate::proofs::Parts::parts_begin, crate::proofs::Parts::one_more_part, crate::proofs::Parts::part_missing, crate::proofs::Parts::parts_end))]
 fn parts_of(
     alloc: Global,
-    tests: &[ColumnTest],
+    tests: &TableTests,
     links: &[Link],
     columns: &[u8],
 ) -> Result<Option<Vec<KeyPart>>, NoMemory>
-    ensures { IfOk result (λ parts. option_map (λ some. some.items) parts ≡ plans.parts_of (map seen tests.now) (map seen_link links.now) columns.now) }
+    ensures { IfOk result (λ parts. option_map (λ some. some.items) parts ≡ plans.parts_of (usable tests.now) (map seen_link links.now) columns.now) }
 {
     let mut parts = Vec::new(alloc);
     for column in columns {
@@ -120,10 +120,10 @@ fn join_by_parts(links: &[Link], parts: Option<Vec<KeyPart>>) -> JoinKind
 pub(crate) fn join_of(
     alloc: Global,
     table: &TableDef,
-    tests: &[ColumnTest],
+    tests: &TableTests,
     links: &[Link],
 ) -> Result<JoinKind, NoMemory>
-    ensures { IfOk result (λ join. join ≡ plans.join_of table.now (map seen tests.now) (map seen_link links.now)) }
+    ensures { IfOk result (λ join. join ≡ plans.join_of table.now (usable tests.now) (map seen_link links.now)) }
 {
     let parts = parts_of(alloc, tests, links, table.key.items())?;
     Ok(join_by_parts(links, parts))

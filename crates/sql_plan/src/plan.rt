@@ -9,7 +9,7 @@ use crate::access::access_of;
 use crate::joins::join_of;
 use crate::links::links_of;
 use crate::tables::shown_table;
-use crate::tests::column_tests;
+use crate::tests::table_tests;
 use geo_base::{NoMemory, TableNo};
 use geo_schema::{Schema, TableDef};
 use row_source::{Access, Plan, Second};
@@ -21,8 +21,8 @@ fn first_access(alloc: Global, left: &TableDef, tests: &[Expr]) -> Result<Access
     requires { IsTable left.now }
     ensures { IfOk result (λ way. way ≡ plans.first_access left.now tests.now) }
 {
-    let own = column_tests(alloc, tests, 0, left.columns.items().len())?;
-    access_of(alloc, left, own.as_slice())
+    let own = table_tests(tests, 0, left.columns.items().len());
+    access_of(alloc, left, &own)
 }
 
 /// The access to the right table and the join to it.
@@ -37,10 +37,10 @@ fn second_of(
     ensures { IfOk result (λ second. second ≡ plans.second_of left.now right.now tests.now) }
 {
     let (lefts, rights) = (left.columns.items().len(), right.columns.items().len());
-    let own = column_tests(alloc, tests, lefts, rights)?;
+    let own = table_tests(tests, lefts, rights);
     let links = links_of(alloc, tests, lefts, rights)?;
-    let access = access_of(alloc, right, own.as_slice())?;
-    let join = join_of(alloc, right, own.as_slice(), links.as_slice())?;
+    let access = access_of(alloc, right, &own)?;
+    let join = join_of(alloc, right, &own, links.as_slice())?;
     Ok(Second { access, join })
 }
 
@@ -84,8 +84,10 @@ fn plan_of_two(
     })
 }
 
-/// The plan of a statement over one table or two, by its conjuncts. Walks each of them once; then takes, for each column
-/// of a key or an index, a step for each conjunct that tests a column or links two.
+/// The plan of a statement over one table or two, by its conjuncts. Walks each of them once, and once more for a second
+/// table; then takes, for each column of a key or an index, some steps for each conjunct. Memory is taken for the cells of
+/// the access alone, and with two tables for the links and the parts of a join: the plan of one row by its key takes that of
+/// the key.
 #[tactic(auto, using(crate::proofs::Numbers::one_number, crate::proofs::Numbers::two_numbers, crate::proofs::Fitting::chosen_fits))]
 pub fn plan_of(
     alloc: Global,

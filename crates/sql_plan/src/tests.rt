@@ -1,18 +1,16 @@
 //! Which tests of a statement a plan may use.
-ghost use Rattle.std.specs.Prelude.{◌≡◌, ◌<◌, ◌+◌, ◌&&◌, false, nat_eq, length, map, position, IfOk, IfSome};
-ghost use Rattle.std.specs.List.{All, filter_map, find};
-ghost use Rattle.std.specs.Option.{option_copied, option_map};
+ghost use Rattle.std.specs.Prelude.{◌≡◌, ◌<◌, false, length, position, IfSome};
+ghost use Rattle.std.specs.List.{All, filter_map};
+ghost use Rattle.std.specs.Option.{option_map};
 ghost use Rattle.geo_base.specs.Cells.{is_null};
 ghost use Rattle.sql_expr.specs.declared.expr.Expr.{out-Expr};
 ghost use Rattle.sql_plan.specs.Plans.{first_test};
 ghost use Rattle.sql_plan.specs.Tests as meant;
 ghost use Rattle.sql_plan.specs.Tests.{tests_of};
-ghost use Rattle.sql_plan.specs.inner.Borrowed.{said_by, seen, test_of};
+ghost use Rattle.sql_plan.specs.inner.Borrowed.{said_by, seen, such, test_of, usable};
 
-use crate::collecting::push_some;
-use geo_base::{Cell, NoMemory};
+use geo_base::Cell;
 use sql_expr::{Expr, Test};
-use std::alloc::Global;
 
 /// A column that is compared with a literal.
 #[derive(Clone, Copy)]
@@ -21,6 +19,17 @@ pub(crate) struct ColumnTest<'a> {
     pub column: u16,
     pub test: Test,
     pub literal: &'a Cell,
+}
+
+/// The usable tests of one table.
+#[derive(Clone, Copy)]
+pub(crate) struct TableTests<'a> {
+    /// Those of these that test a column of the table are the usable ones.
+    safe: &'a [Expr],
+    /// The place of the table's first column.
+    first: usize,
+    /// How many columns it has.
+    count: usize,
 }
 
 /// What a test says of its column.
@@ -123,12 +132,11 @@ fn column_test_in<'a>(expr: &'a Expr) -> Option<ColumnTest<'a>>
 /// The usable test that an expression is, where its column is one of so many from a first one on; the column is
 /// counted from there.
 fn test_of<'a>(expr: &'a Expr, first: usize, count: usize) -> Option<ColumnTest<'a>>
-    requires { first + count < 65536 }
     ensures { option_map seen result ≡ test_of first count expr.entry.now }
 {
     let test = column_test_in(expr)?;
     let column = usize::from(test.column);
-    if column < first || first + count <= column {
+    if column < first || count <= column - first {
         return None;
     }
     Some(ColumnTest {
@@ -138,37 +146,17 @@ fn test_of<'a>(expr: &'a Expr, first: usize, count: usize) -> Option<ColumnTest<
     })
 }
 
-/// The usable tests that the expressions are of the table whose columns are so many from a first one on.
-#[tactic(auto, using(crate::proofs::Collected::one_more))]
-fn tests_in<'a>(
-    alloc: Global,
-    safe: &'a [Expr],
-    first: usize,
-    count: usize,
-) -> Result<Vec<ColumnTest<'a>>, NoMemory>
-    requires { first + count < 65536 }
-    ensures { IfOk result (λ found. map seen found.items ≡ filter_map (test_of first count) safe.entry.now) }
+/// The usable tests of the table whose columns are so many from a first one on. They are read where they stand each
+/// time that one is looked for, so that they take no memory.
+pub(crate) fn table_tests<'a>(tests: &'a [Expr], first: usize, count: usize) -> TableTests<'a>
+    ensures tests { usable result ≡ tests_of first count (meant.column_tests tests.entry.now) }
+    ensures whole { All (λ t. is_null t.literal ≡ false) (usable result) }
 {
-    let mut found = Vec::new(alloc);
-    for test in safe {
-        push_some(&mut found, test_of(test, first, count))?;
+    TableTests {
+        safe: safe_tests(tests),
+        first,
+        count,
     }
-    Ok(found)
-}
-
-/// The usable tests of the table whose columns are so many from a first one on, in their order.
-#[tactic(auto, using(crate::proofs::Collected::all_tests))]
-pub(crate) fn column_tests<'a>(
-    alloc: Global,
-    tests: &'a [Expr],
-    first: usize,
-    count: usize,
-) -> Result<Vec<ColumnTest<'a>>, NoMemory>
-    requires { first + count < 65536 }
-    ensures tests { IfOk result (λ found. map seen found.items ≡ tests_of first count (meant.column_tests tests.entry.now)) }
-    ensures whole { IfOk result (λ found. All (λ t. is_null t.literal ≡ false) (map seen found.items)) }
-{
-    Ok(tests_in(alloc, safe_tests(tests), first, count)?)
 }
 
 /// Whether a test says such a thing.
@@ -182,41 +170,56 @@ fn is_of(kind: TestKind, test: Test) -> bool
     }
 }
 
-/// The first test of the column that is of the kind.
-fn find_test<'b, 'a>(
+/// The usable test of the table that an expression is, where it is one of the column and of the kind.
+fn such_test<'a>(
     kind: TestKind,
-    tests: &'b [ColumnTest<'a>],
+    expr: &'a Expr,
+    first: usize,
+    count: usize,
     column: u16,
-) -> Option<&'b ColumnTest<'a>>
-    ensures { option_copied result ≡ find (λ t. nat_eq t.column column && said_by kind t.test) tests.entry.now }
+) -> Option<ColumnTest<'a>>
+    ensures { option_map seen result ≡ such (said_by kind) column (test_of first count expr.entry.now) }
 {
-    tests
-        .iter()
-        .find(|test| test.column == column && is_of(kind, test.test))
-}
-
-/// The same test, of the same literal.
-fn copy_of<'a>(test: &ColumnTest<'a>) -> ColumnTest<'a>
-    ensures { seen result ≡ seen test.entry.now }
-{
-    ColumnTest {
-        column: test.column,
-        test: test.test,
-        literal: test.literal,
+    let test = test_of(expr, first, count)?;
+    if test.column == column && is_of(kind, test.test) {
+        Some(test)
+    } else {
+        None
     }
 }
 
+/// The first of the usable tests of the table that is one of the column and of the kind.
+#[tactic(auto, using(crate::proofs::Collected::not_first, crate::proofs::Collected::none_first))]
+fn find_test<'a>(
+    kind: TestKind,
+    safe: &'a [Expr],
+    first: usize,
+    count: usize,
+    column: u16,
+) -> Option<ColumnTest<'a>>
+    ensures { option_map seen result ≡ first_test (said_by kind) (filter_map (test_of first count) safe.entry.now) column }
+{
+    for test in safe {
+        if let Some(test) = such_test(kind, test, first, count, column) {
+            return Some(test);
+        }
+    }
+    None
+}
+
 /// The first test of the column that is of the kind.
-#[tactic(auto, using(crate::proofs::Collected::find_seen))]
 pub(crate) fn first_test<'a>(
     kind: TestKind,
-    tests: &[ColumnTest<'a>],
+    tests: &TableTests<'a>,
     column: u8,
 ) -> Option<ColumnTest<'a>>
-    ensures { option_map seen result ≡ first_test (said_by kind) (map seen tests.entry.now) column }
+    ensures { option_map seen result ≡ first_test (said_by kind) (usable tests.entry.now) column }
 {
-    match find_test(kind, tests, u16::from(column)) {
-        Some(test) => Some(copy_of(test)),
-        None => None,
-    }
+    find_test(
+        kind,
+        tests.safe,
+        tests.first,
+        tests.count,
+        u16::from(column),
+    )
 }
