@@ -1,0 +1,6 @@
+mod Kept
+mod Keys
+mod LeftOut
+mod Linked
+mod Planned
+mod Reached
