@@ -1,5 +1,5 @@
 -- Right rows by their cell in the column of a link.
-use Rattle.std.proofs.Common.{◌≡◌, ℕ, ◌+◌, ◌<◌, Bool, true, false, not, ◌&&◌, if◌then◌else◌, Option, Some, None, unwrap_or, List, [], ◌∷◌, ◌++◌, drop, get_or, length, map, refl, sym, ap, subst, ◌∙◌, append_assoc}
+use Rattle.std.proofs.Common.{Bor, ◌≡◌, ℕ, ◌+◌, ◌<◌, Bool, true, false, not, ◌&&◌, if◌then◌else◌, Option, Some, None, unwrap_or, List, [], ◌∷◌, ◌++◌, drop, get_or, length, map, refl, sym, ap, subst, ◌∙◌, append_assoc}
 use Rattle.std.specs.List.{filter}
 use Rattle.std.specs.Map.{KeepsOthers, lookup}
 use Rattle.std.proofs.lemmas.List.{append-nil, drop_more}
@@ -116,15 +116,23 @@ linked_reached p column c (a ∷ rows) = by (p a) refl (are_linked c (cell_at a.
     by true is false same rest = rw (is, same) rest
     by false is d same rest = rw is rest
 
+-- ---- each left row beside the same right rows
+
+same_pairs_by : (find other : List Cell → List RowImage) (lefts : List RowImage) → ((left : List Cell) → find left ≡ other left) → pairs_by find lefts ≡ pairs_by other lefts
+same_pairs_by find other [] same = refl
+same_pairs_by find other (left ∷ lefts) same = rw (same left) (ap (λ (rest : List Pair). map (paired left) (other left) ++ rest) (same_pairs_by find other lefts same))
+
 -- by a link the rows that are found are those with an equal cell
-pub by_link : (tables : Tables) (number : ℕ) (way : Access) (kind : JoinKind) (rows : Table) (l r : ℕ) (found : List RowImage) → kind ≡ join.Hashed l r →
+by_link : (tables : Tables) (number : ℕ) (way : Access) (kind : JoinKind) (rows : Table) (l r : ℕ) (found : List RowImage) → kind ≡ join.Hashed l r →
     found ≡ images (filter (reaches tables number way) rows) → (left : List Cell) → linked r (cell_at left l) found ≡ images (filter (finds_by tables number way kind left) rows)
 by_link tables number way kind rows l r found is reached left =
     ap (linked r (cell_at left l)) reached ∙ linked_reached (reaches tables number way) r (cell_at left l) rows
     ∙ ap (λ (k : JoinKind). images (filter (finds_by tables number way k left) rows)) (sym is)
 
--- ---- each left row beside the same right rows
-
-pub same_pairs_by : (find other : List Cell → List RowImage) (lefts : List RowImage) → ((left : List Cell) → find left ≡ other left) → pairs_by find lefts ≡ pairs_by other lefts
-same_pairs_by find other [] same = refl
-same_pairs_by find other (left ∷ lefts) same = rw (same left) (ap (λ (rest : List Pair). map (paired left) (other left) ++ rest) (same_pairs_by find other lefts same))
+-- beside each left row, where they are shown as references
+pub all_by_link : (tables : Tables) (number : ℕ) (way : Access) (kind : JoinKind) (rows : Table) (l r : ℕ) (shown found : List (Bor RowImage)) (lefts : List RowImage) →
+    kind ≡ join.Hashed l r → shown ≡ found → map (λ row. row.now) found ≡ images (filter (reaches tables number way) rows) →
+    pairs_by (λ left. linked r (cell_at left l) (map (λ row. row.now) shown)) lefts ≡ pairs_by (λ left. images (filter (finds_by tables number way kind left) rows)) lefts
+all_by_link tables number way kind rows l r shown found lefts is same reached =
+    same_pairs_by (λ left. linked r (cell_at left l) (map (λ row. row.now) shown)) (λ left. images (filter (finds_by tables number way kind left) rows)) lefts
+    (by_link tables number way kind rows l r (map (λ row. row.now) shown) is (ap (λ (rights : List (Bor RowImage)). map (λ row. row.now) rights) same ∙ reached))

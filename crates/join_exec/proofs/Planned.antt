@@ -1,11 +1,12 @@
 -- What is kept of what a plan hands out is what is kept of all rows or pairs.
-use Rattle.std.proofs.Common.{◌≡◌, ℕ, Bool, true, false, ◌&&◌, nat_eq, Option, Some, None, Ok, List, [], ◌∷◌, length, get_or, map, refl, sym, ap, subst, ◌∙◌, arith}
+use Rattle.std.proofs.Common.{Bor, ◌≡◌, ℕ, Bool, true, false, ◌&&◌, nat_eq, Option, Some, None, Ok, List, [], ◌∷◌, length, get_or, map, refl, sym, ap, subst, ◌∙◌, arith}
 use Rattle.std.specs.List.{Contains, filter}
 use Rattle.std.proofs.lemmas.Bool.{eq-eqb, eqb-true}
 use Rattle.std.proofs.lemmas.List.{append-nil}
 use Rattle.geo_base.specs.Order.{row_eq}
 use Rattle.geo_base.specs.declared.cell.Cell.{Cell}
 use Rattle.geo_base.specs.declared.row_id.RowId.{RowId}
+use Rattle.geo_base.specs.declared.row_image.RowImage.{RowImage}
 use Rattle.geo_base.specs.laws.Orders.{row_eq_decides}
 use Rattle.geo_schema.specs.Schemas.{Tables}
 use Rattle.join_exec.proofs.Kept.{begins}
@@ -14,6 +15,7 @@ use Rattle.join_exec.specs.inner.Kept.{kept_behind, pairs_by}
 use Rattle.row_source.specs.Handing.{IsPlanFor, LeavesOut, finds, finds_by, part_cell, reaches, row_named}
 use Rattle.row_source.specs.Matches.{alone, matches_of, pair_cells, paired}
 use Rattle.row_source.specs.Sources.{Entry, images, of_table}
+use Rattle.row_source.specs.declared.pair.Pair.{Pair}
 use Rattle.row_source.specs.declared.plan.Access.{Access}
 use Rattle.row_source.specs.declared.plan.Access.TheVariants as access
 use Rattle.row_source.specs.declared.plan.JoinKind.{JoinKind}
@@ -115,3 +117,13 @@ pub by_two : (tables : Tables) (left right : ℕ) (numbers : List ℕ) (plan : P
 by_two tables left right numbers plan rows tests two leaves =
     ap (λ (n : List ℕ). matches_of n tests rows) (sym two)
     ∙ two_tables tables plan rows tests left right (subst (λ (n : List ℕ). LeavesOut tables n plan rows (λ cells. kept cells tests ≡ Ok false)) (sym two) leaves)
+
+-- the pairs beside left rows that are shown as references, where the plan's second part is read of it
+pub beside_shown : (tables : Tables) (right : ℕ) (rows : Table) (tests : List Expr) (done : List Pair) (shown found : List (Bor RowImage)) (lefts : List RowImage) (second : Second) (part : Option Second) →
+    shown ≡ found → map (λ row. row.now) found ≡ lefts → part ≡ Some second →
+    kept_behind tests done (pairs_by (λ left. images (filter (finds tables right (Some second) left) rows)) (map (λ row. row.now) shown))
+    ≡ kept_behind tests done (pairs_by (λ left. images (filter (finds tables right part left) rows)) lefts)
+beside_shown tables right rows tests done shown found lefts second part same reached is =
+    ap (λ (some : List RowImage). kept_behind tests done (pairs_by (λ left. images (filter (finds tables right (Some second) left) rows)) some))
+    (ap (λ (some : List (Bor RowImage)). map (λ row. row.now) some) same ∙ reached)
+    ∙ ap (λ (p : Option Second). kept_behind tests done (pairs_by (λ left. images (filter (finds tables right p left) rows)) lefts)) (sym is)

@@ -2,8 +2,7 @@
 //!
 //! [`join`] answers by every plan what the definition says of all rows (`row_source: specs/Matches.antt`), where each row or
 //! pair that the plan doesn't hand out is one that the conditions drop (`row_source: specs/Handing.antt`). The plans of
-//! `sql_plan` are such plans. [`reached_rows`] are the rows of one table that an access reaches, and [`rows_named`] the one
-//! that has a name.
+//! `sql_plan` are such plans.
 #![tactic(auto)]
 
 mod by_key;
@@ -13,4 +12,3 @@ mod keeping;
 mod reaching;
 
 pub use joining::join;
-pub use reaching::{reached_rows, rows_named};

@@ -27,7 +27,7 @@ fn listed<'a>(alloc: Global, image: Option<&'a RowImage>) -> Result<Vec<&'a RowI
 }
 
 /// The one row with the name, where there is one.
-pub fn rows_named<'a, R: RowSource, L: Ledger>(
+fn rows_named<'a, R: RowSource, L: Ledger>(
     alloc: Global,
     source: &'a R,
     row: &RowId,
@@ -105,9 +105,8 @@ fn whole<'a, R: RowSource, L: Ledger>(
     by_key(alloc, source, table, &range, steps)
 }
 
-/// The rows of the table that the access reaches, in the order of their keys. A point takes a copy of its key, and
-/// [`rows_named`] takes none.
-pub fn reached_rows<'a, R: RowSource, L: Ledger>(
+/// The rows of the table that the access reaches, in the order of their keys. A point takes a copy of its key.
+pub(crate) fn reached_rows<'a, R: RowSource, L: Ledger>(
     alloc: Global,
     source: &'a R,
     table: TableNo,
