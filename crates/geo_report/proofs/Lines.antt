@@ -17,6 +17,15 @@ adds_behind result now middle out first text whole before parts h =
 pub after_blank : (front words rest : List ℕ) → front ++ (32 ∷ words ++ rest) ≡ ((front ++ 32 ∷ []) ++ words) ++ rest
 after_blank front words rest = simp append_assoc
 
+-- a text behind one that was added before
+pub behind : (out one two a b : List ℕ) → one ≡ out ++ a → two ≡ one ++ b → two ≡ out ++ (a ++ b)
+behind out one two a b p q = q ∙ ap (λ t. t ++ b) p ∙ append_assoc out a b
+
+-- the pieces of the line of an epoch that is published
+pub published_line : (region words epoch commits count aborts others : List ℕ) →
+    (region ++ (32 ∷ words ++ epoch)) ++ (((commits ++ count) ++ aborts) ++ others) ≡ ((((((region ++ 32 ∷ []) ++ words) ++ epoch) ++ commits) ++ count) ++ aborts) ++ others
+published_line region words epoch commits count aborts others = simp append_assoc
+
 -- the pieces of the first line of a reply
 pub said_line : (out one two three four five region session text : List ℕ) → one ≡ out ++ region → two ≡ one ++ 46 ∷ session → three ≡ two ++ 32 ∷ [] →
     four ≡ three ++ text → five ≡ four ++ 10 ∷ [] → five ≡ out ++ (((((region ++ 46 ∷ []) ++ session) ++ 32 ∷ []) ++ text) ++ 10 ∷ [])

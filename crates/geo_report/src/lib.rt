@@ -3,7 +3,7 @@
 //! A step of a session or a region answers values: a [`Reply`], which may be a [`Refusal`] with its number, or a
 //! [`Notice`]. This crate alone turns them into bytes. What it answers are exactly the lines that the definitions say
 //! (`specs/Replies.antt`, `Refusals.antt`, `Notices.antt` and `TableLines.antt`), want of memory apart; so the layers
-//! above compare values, and no text is written anywhere else.
+//! above can compare values, and write no such text of their own.
 #![tactic(auto)]
 
 mod listing;
