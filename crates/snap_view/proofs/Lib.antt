@@ -1,4 +1,5 @@
 mod Between
+mod Compared
 mod Listed
 mod Looked
 mod Merged

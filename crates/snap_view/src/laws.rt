@@ -6,13 +6,14 @@ ghost use Rattle.index_store.specs.declared.pair.IndexPair.{IndexPair};
 ghost use Rattle.index_store.specs.Indexes.{IsIndexOf};
 ghost use Rattle.index_store.specs.Kept.{IsKeptEpoch, IsNextOf, IsRestOf};
 ghost use Rattle.row_source.specs.Sources.{AreRowsOf};
-ghost use Rattle.version_store.specs.History.{Kept, IsApplied, IsHistoryOf, IsKept, IsTrimmed, TellsChange};
+ghost use Rattle.version_store.specs.Chains.{newest_epoch};
+ghost use Rattle.version_store.specs.History.{Kept, IsApplied, IsHistoryOf, IsKept, IsTrimmed, TellsChange, chain_of};
 ghost use Rattle.write_set.specs.Journal.{Journal, Placed, Extends, epochs_of};
 ghost use Rattle.write_set.specs.Merge.{last_change};
 ghost use Rattle.write_set.specs.Overlay.{Table, image_in, overlay};
 ghost use Rattle.write_set.specs.Sets.{ChangeOfRow, Rises};
 ghost use Rattle.write_set.specs.Snapshot.{snap_at};
-ghost use Rattle.snap_view.specs.Snapshots.{Held, HoldsIndexes, IsSnapshot, IsSnapshotOf, images_of, last_held, rows_of};
+ghost use Rattle.snap_view.specs.Snapshots.{Held, HoldsIndexes, ImagesFit, IsSnapshot, IsSnapshotOf, images_of, last_held, rows_of};
 ghost use Rattle.snap_view.specs.Views.{PutsFit};
 
 /// A snapshot of versions that are a journal's history has the rows of the journal's snapshot of its epoch: a look-up in
@@ -36,11 +37,13 @@ pub fn snapshots_never_change()
         IsTrimmed horizon earlier.versions later.versions → rows_of earlier ≡ rows_of later }
 {}
 
-/// The last change that a snapshot of the last epoch applied tells of a row is the journal's, where that is after the
-/// horizon, and else an epoch that isn't after it.
+/// The last change that a snapshot tells of a row is the journal's up to the snapshot's epoch, where that is after the
+/// horizon, and else an epoch that isn't after it. A snapshot of the last epoch applied tells the epoch of the row's
+/// newest version.
 pub fn snapshots_tell_last_changes()
-    ensures { (journal : Journal) (held : Held) (row : RowId) → IsHistoryOf journal held.versions → held.epoch ≡ held.versions.applied →
+    ensures change { (journal : Journal) (held : Held) (row : RowId) → IsHistoryOf journal held.versions → IsSnapshot held →
         TellsChange held.versions.horizon (last_change (epochs_of journal held.epoch) row) (last_held held row) }
+    ensures newest { (held : Held) (row : RowId) → IsSnapshot held → held.epoch ≡ held.versions.applied → last_held held row ≡ newest_epoch (chain_of held.versions row) }
 {}
 
 /// The index of the images that are read of kept versions has the pair of each version, at whatever epoch it is read.
@@ -59,6 +62,11 @@ pub fn indexes_follow_versions()
         IsNextOf committed (images_of old) (images_of new) }
     ensures trimmed { (horizon : ℕ) (old new : Kept) → IsKept new → old.horizon ≤ horizon → IsTrimmed horizon old new →
         IsRestOf (images_of old) (images_of new) }
+{}
+
+/// The rows of a snapshot are rows of tables of which each image that its versions keep is one.
+pub fn snapshots_fit_their_schema()
+    ensures { (tables : Tables) (held : Held) → IsSnapshot held → ImagesFit tables held.versions → AreRowsOf tables (rows_of held) }
 {}
 
 /// The rows of a view are rows of its schema's tables, where those of its snapshot are and each image that the own

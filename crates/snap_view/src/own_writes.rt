@@ -7,7 +7,7 @@ ghost use Rattle.snap_view.specs.inner.Edges.{is_before_high, is_before_low};
 ghost use Rattle.snap_view.specs.inner.Laying.{all_within, alterations, leaving, left_within};
 
 use crate::edges::{HighEdge, LowEdge};
-use crate::naming::image_within;
+use crate::indexed::image_within;
 use geo_base::{NoMemory, RowId, RowImage};
 use geo_schema::{IndexDef, KeyRange};
 use std::alloc::Global;
@@ -50,7 +50,8 @@ pub(crate) fn images_left<'a>(
     Ok(left)
 }
 
-/// What is left in the range of an index: of each row the image, where its cells in the index lie in the range.
+/// What is left in the range of an index: of each row the image, where its cells in the index lie in the range. Takes
+/// memory for the answer alone.
 pub(crate) fn left_by_index<'w, 'a>(
     alloc: Global,
     index: &IndexDef,
@@ -61,22 +62,21 @@ pub(crate) fn left_by_index<'w, 'a>(
 {
     let mut found = Vec::with_capacity(alloc, left.len())?;
     for write in left {
-        found.push((write.0, left_in(alloc, index, range, write.1)?))?;
+        found.push((write.0, left_in(index, range, write.1)))?;
     }
     Ok(found)
 }
 
 /// The image, where there is one whose cells in the index lie in the range.
 fn left_in<'a>(
-    alloc: Global,
     index: &IndexDef,
     range: &KeyRange,
     image: Option<&'a RowImage>,
-) -> Result<Option<&'a RowImage>, NoMemory>
-    ensures { IfOk result (λ found. leaving (option_copied found) ≡ left_within index.now range.now (leaving (option_copied image.entry))) }
+) -> Option<&'a RowImage>
+    ensures { leaving (option_copied result) ≡ left_within index.now range.now (leaving (option_copied image.entry)) }
 {
     match image {
-        Some(image) => image_within(alloc, index, range, image),
-        None => Ok(None),
+        Some(image) => image_within(index, range, image),
+        None => None,
     }
 }

@@ -97,7 +97,8 @@ impl Snapshot {
     }
 
     /// The names of the rows that the table's index has in the range: of all that lie in it at this epoch, and of others
-    /// that lay in it after another epoch that is kept. Each is of a pair in the range, so no table is gone through. Takes what `IndexStore::range` takes, and a copy of each key.
+    /// that lay in it after another epoch that is kept. Each is of a pair in the range, so no table is gone through.
+    /// Takes what `IndexStore::range` takes, and a copy of each key.
     pub(crate) fn names_by_index(
         &self,
         alloc: Global,
@@ -132,6 +133,6 @@ impl Changes for Snapshot {
     ghost last = { λ s row. last_held s row };
 
     fn last_change(&self, row: &RowId) -> Epoch {
-        self.versions.last_change(row)
+        self.versions.last_change_at(row, self.epoch)
     }
 }

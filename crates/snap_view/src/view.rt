@@ -26,8 +26,9 @@ use write_set::{Change, WriteSet};
 /// The rows that a transaction sees: those of its snapshot, with its own writes laid over them.
 ///
 /// A row is found by a look-up. A range of keys takes the rows in it, of the snapshot and of the own writes, and two
-/// searches in each; a range of an index takes a look-up for each pair that the index has in it, and a step for each own
-/// write of the table. Both take memory.
+/// searches in each; a range of an index takes a look-up for each pair that the index has in it, and a comparison with
+/// the range for each own write of the table, of which there are at most 1,024. Both take memory for the lists of what
+/// they find, and copy no cells of rows.
 #[derive(Drop)]
 pub struct View<'a> {
     schema: &'a Schema,

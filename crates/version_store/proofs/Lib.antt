@@ -1,4 +1,5 @@
 mod Finding
 mod Applying
+mod Counted
 mod Listed
 mod Trimmed

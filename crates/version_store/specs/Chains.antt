@@ -26,6 +26,15 @@ image_of (Some version) = version.image
 abbrev pub image_at : Chain → ℕ → Option RowImage
 image_at chain epoch = image_of (find (λ version. nat_le version.epoch epoch) chain)
 
+-- the epoch of a version, 0 where there is none
+abbrev pub epoch_of : Option Version → ℕ
+epoch_of None = 0
+epoch_of (Some version) = version.epoch
+
+-- the last change of the row up to the epoch: the epoch of the newest version that was made up to then
+abbrev pub change_at : Chain → ℕ → ℕ
+change_at chain epoch = epoch_of (find (λ version. nat_le version.epoch epoch) chain)
+
 -- the image that the newest version leaves
 abbrev pub newest_image : Chain → Option RowImage
 newest_image [] = None

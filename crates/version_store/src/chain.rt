@@ -1,7 +1,7 @@
 //! The versions of one row.
-ghost use Rattle.std.specs.Prelude.{◌≡◌, [], ◌++◌, length, find, nat_eq, nat_le, IfOk, OnOk};
+ghost use Rattle.std.specs.Prelude.{◌≡◌, ◌≤◌, [], ◌++◌, length, find, take, nat_eq, nat_le, IfOk, OnOk};
 ghost use Rattle.std.specs.Option.{option_copied};
-ghost use Rattle.version_store.specs.Chains.{image_at, newest_epoch, kept_at};
+ghost use Rattle.version_store.specs.Chains.{image_at, change_at, newest_epoch, kept_at};
 ghost use Rattle.version_store.specs.inner.Writing.{but_of, renewed};
 
 use crate::version::RowVersion;
@@ -32,6 +32,16 @@ impl Chain {
         match newest_upto(self.versions.as_slice(), epoch) {
             Some(version) => version.image(),
             None => None,
+        }
+    }
+
+    /// The last change up to the epoch, 0 where there is none. Looks at as many versions.
+    pub(crate) fn change_at(&self, epoch: Epoch) -> Epoch
+        ensures { result ≡ change_at self.now epoch }
+    {
+        match newest_upto(self.versions.as_slice(), epoch) {
+            Some(version) => version.epoch(),
+            None => 0,
         }
     }
 
@@ -83,11 +93,19 @@ impl Chain {
         Ok(Chain { versions })
     }
 
-    /// What the horizon leaves: all that are newer, and the newest of the others unless it is a removal.
-    pub(crate) fn kept_at(&self, alloc: Global, horizon: Epoch) -> Result<Chain, NoMemory>
-        ensures { IfOk result (λ chain. chain ≡ kept_at horizon self.now) }
+    /// How many versions the horizon leaves: all that are newer, and the newest of the others unless it is a removal.
+    pub(crate) fn count_left(&self, horizon: Epoch) -> usize
+        ensures { result ≡ length (kept_at horizon self.now) }
     {
-        let versions = kept_versions(alloc, self.versions.as_slice(), horizon)?;
+        count_left(self.versions.as_slice(), horizon)
+    }
+
+    /// So many of the newest versions.
+    pub(crate) fn front(&self, alloc: Global, count: usize) -> Result<Chain, NoMemory>
+        requires { count ≤ length self.now }
+        ensures { IfOk result (λ chain. chain ≡ take count self.now) }
+    {
+        let versions = copy_items(alloc, &self.versions.as_slice()[..count])?;
         Ok(Chain { versions })
     }
 }
@@ -130,23 +148,16 @@ fn copy_versions(
     Ok(())
 }
 
-/// Copies of those versions that the horizon leaves.
-fn kept_versions(
-    alloc: Global,
-    versions: &[RowVersion],
-    horizon: Epoch,
-) -> Result<Vec<RowVersion>, NoMemory>
-    ensures { IfOk result (λ kept. kept.items ≡ kept_at horizon versions.now) }
+/// How many of the versions the horizon leaves.
+fn count_left(versions: &[RowVersion], horizon: Epoch) -> usize
+    ensures { result ≡ length (kept_at horizon versions.now) }
 {
-    let mut kept = Vec::new(alloc);
+    let mut newer = 0;
     for version in versions {
         if version.epoch() <= horizon {
-            if version.has_image() {
-                kept.push(version.copy(alloc)?)?;
-            }
-            return Ok(kept);
+            return newer + usize::from(version.has_image());
         }
-        kept.push(version.copy(alloc)?)?;
+        newer += 1;
     }
-    Ok(kept)
+    newer
 }

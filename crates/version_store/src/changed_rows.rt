@@ -85,19 +85,9 @@ fn alters(change: &Change) -> bool
     }
 }
 
-/// Those of later epochs than the horizon.
-pub(crate) fn later_notes(
-    alloc: Global,
-    notes: &[ChangedRows],
-    horizon: Epoch,
-) -> Result<Vec<ChangedRows>, NoMemory>
-    ensures { IfOk result (λ later. later.items ≡ filter (λ n. nat_lt horizon n.epoch) notes.now) }
+/// Leaves those of later epochs than the horizon. Takes no memory.
+pub(crate) fn leave_later(notes: &mut Vec<ChangedRows>, horizon: Epoch)
+    ensures { notes.new.items ≡ filter (λ n. nat_lt horizon n.epoch) notes.old.items }
 {
-    let mut later = Vec::new(alloc);
-    for note in notes {
-        if horizon < note.epoch() {
-            later.push(note.copy(alloc)?)?;
-        }
-    }
-    Ok(later)
+    notes.retain(|note| horizon < note.epoch());
 }

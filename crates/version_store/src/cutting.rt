@@ -1,7 +1,7 @@
 //! Cutting off the versions that a horizon doesn't leave.
 ghost use Rattle.std.specs.Prelude.{◌≡◌, OnOk};
 ghost use Rattle.version_store.specs.inner.Noting.{rows_upto};
-ghost use Rattle.version_store.specs.inner.Writing.{settled, cut, all_cut};
+ghost use Rattle.version_store.specs.inner.Writing.{replaced, cut, all_cut};
 
 use crate::chain::Chain;
 use crate::changed_rows::ChangedRows;
@@ -41,7 +41,8 @@ fn cut_all(
     Ok(())
 }
 
-/// Leaves what the horizon leaves of the row.
+/// Leaves what the horizon leaves of the row. Where that is all of its versions nothing is done, so that no memory is
+/// taken and no page is copied.
 fn cut(
     alloc: Global,
     rows: &mut PageMap<RowId, Chain>,
@@ -50,29 +51,30 @@ fn cut(
 ) -> Result<(), NoMemory>
     ensures { OnOk result (rows.new ≡ cut horizon row.now rows.old) }
 {
-    let (left, before) = match rows.get(row) {
-        Some(chain) => (chain.kept_at(alloc, horizon)?, chain.len()),
+    let left = match rows.get(row) {
+        Some(chain) => {
+            let count = chain.count_left(horizon);
+            if 0 < count && count == chain.len() {
+                return Ok(());
+            }
+            chain.front(alloc, count)?
+        }
         None => return Ok(()),
     };
-    settle(alloc, rows, row, left, before)
+    replace(alloc, rows, row, left)
 }
 
-/// Puts the versions at the row, of which there were so many: where these are as many nothing is done, so that no page
-/// is copied, and where there are none the row is taken out.
-fn settle(
+/// Puts these versions in the place of those of the row, and takes the row out where there are none.
+fn replace(
     alloc: Global,
     rows: &mut PageMap<RowId, Chain>,
     row: &RowId,
     chain: Chain,
-    before: usize,
 ) -> Result<(), NoMemory>
-    ensures { OnOk result (rows.new ≡ settled before row.now chain rows.old) }
+    ensures { OnOk result (rows.new ≡ replaced row.now chain rows.old) }
 {
     if chain.is_empty() {
         rows.take(row)?;
-        return Ok(());
-    }
-    if chain.len() == before {
         return Ok(());
     }
     rows.set(row.copy(alloc)?, chain)?;

@@ -9,16 +9,19 @@ ghost use Rattle.write_set.specs.Journal.{Journal, Placed, Epochs, Extends, epoc
 ghost use Rattle.write_set.specs.Merge.{committed, last_change};
 ghost use Rattle.write_set.specs.Overlay.{Table, image_in};
 ghost use Rattle.write_set.specs.Snapshot.{changes_of, image_after, snap_at, snap_rows};
-ghost use Rattle.version_store.specs.Chains.{Version, Chain, image_at, newest_image, newest_epoch, grown};
-ghost use Rattle.version_store.specs.History.{Kept, chain_of, IsKept, IsHistoryOf, IsApplied, IsTrimmed};
+ghost use Rattle.version_store.specs.Chains.{Version, Chain, image_at, change_at, newest_image, newest_epoch, grown};
+ghost use Rattle.version_store.specs.History.{Kept, chain_of, IsKept, IsHistoryOf, IsApplied, IsTrimmed, TellsChange};
 ghost use Rattle.version_store.specs.Listing.{table_at};
 
 /// At each epoch from the horizon to the last one applied, the kept versions answer what the journal's snapshot
-/// has. The newest version of a row is of the row's last change, where that is after the horizon. Where the last
-/// change isn't after the horizon, the newest version isn't either.
+/// has, and the newest version that was made up to the epoch tells the row's last change up to then: it is of that
+/// change, where that is after the horizon, and else isn't after the horizon either. So the newest of all versions tells
+/// the last change up to the last epoch.
 pub fn versions_answer_as_snapshots()
     ensures images { (journal : Journal) (kept : Kept) (row : RowId) (epoch : ℕ) → IsHistoryOf journal kept →
         kept.horizon ≤ epoch → epoch ≤ kept.applied → image_at (chain_of kept row) epoch ≡ snap_at (epochs_of journal epoch) row }
+    ensures changes { (journal : Journal) (kept : Kept) (row : RowId) (epoch : ℕ) → IsHistoryOf journal kept →
+        kept.horizon ≤ epoch → epoch ≤ kept.applied → TellsChange kept.horizon (last_change (epochs_of journal epoch) row) (change_at (chain_of kept row) epoch) }
     ensures after { (journal : Journal) (kept : Kept) (row : RowId) → IsHistoryOf journal kept →
         kept.horizon < last_change (epochs_of journal kept.applied) row →
         newest_epoch (chain_of kept row) ≡ last_change (epochs_of journal kept.applied) row }
@@ -49,6 +52,7 @@ pub fn what_is_read_stays()
         list_any (λ c. changes_row row c.set) committed ≡ false →
         image_at (chain_of new row) new.applied ≡ image_at (chain_of old row) old.applied }
     ensures newest { (kept : Kept) (row : RowId) → IsKept kept → image_at (chain_of kept row) kept.applied ≡ newest_image (chain_of kept row) }
+    ensures change { (kept : Kept) (row : RowId) → IsKept kept → change_at (chain_of kept row) kept.applied ≡ newest_epoch (chain_of kept row) }
     ensures trimmed { (horizon : ℕ) (old new : Kept) (row : RowId) (epoch : ℕ) → IsTrimmed horizon old new → horizon ≤ epoch →
         image_at (chain_of new row) epoch ≡ image_at (chain_of old row) epoch }
 {}

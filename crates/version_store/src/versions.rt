@@ -5,12 +5,12 @@ ghost use Rattle.page_map.specs.Borders.{IsBorder, pairs_between};
 ghost use Rattle.write_set.specs.Journal.{Journal, candidates_of, epochs_of};
 ghost use Rattle.write_set.specs.Merge.{committed_among, last_change};
 ghost use Rattle.write_set.specs.Snapshot.{snap_at, snap_rows};
-ghost use Rattle.version_store.specs.Chains.{image_at, newest_epoch};
+ghost use Rattle.version_store.specs.Chains.{image_at, change_at, newest_epoch};
 ghost use Rattle.version_store.specs.History.{chain_of, IsKept, IsHistoryOf, TellsChange, AreNextOf, IsApplied, IsTrimmed};
 ghost use Rattle.version_store.specs.Listing.{table_at};
 
 use crate::chain::Chain;
-use crate::changed_rows::{ChangedRows, later_notes};
+use crate::changed_rows::{ChangedRows, leave_later};
 use crate::cutting::cut_noted;
 use crate::listing::rows_at;
 use crate::writing::write_all;
@@ -125,6 +125,26 @@ impl Versions {
         }
     }
 
+    /// The epoch of the row's newest version that was made up to the epoch, 0 where it has none. At an epoch that can be
+    /// read it is the last one up to that which changed the row, where that is after the horizon, and else an epoch that
+    /// isn't after it. Takes no memory: one search, and a look at each version of the row that is newer than the epoch.
+    pub fn last_change_at(&self, row: &RowId, epoch: Epoch) -> Epoch
+        ensures newest { result ≡ change_at (chain_of self.now row.now) epoch }
+        ensures change { (journal : Journal) → IsHistoryOf journal self.now → self.now.horizon ≤ epoch → epoch ≤ self.now.applied → TellsChange self.now.horizon (last_change (epochs_of journal epoch) row.now) result }
+    {
+        self.change_of(row, epoch)
+    }
+
+    /// The last change of the row up to the epoch that its versions have.
+    fn change_of(&self, row: &RowId, epoch: Epoch) -> Epoch
+        ensures { result ≡ change_at (chain_of self.now row.now) epoch }
+    {
+        match self.rows.get(row) {
+            Some(chain) => chain.change_at(epoch),
+            None => 0,
+        }
+    }
+
     /// Whether the epoch isn't below the horizon. [`TooOld`] has the horizon, and comes exactly where it is.
     pub fn check_at(&self, epoch: Epoch) -> Result<(), TooOld>
         ensures ok { OnOk result (self.now.horizon ≤ epoch) }
@@ -175,9 +195,9 @@ impl Versions {
     /// Applies the next epoch: of its batches, one for each region in their order, the changes of those candidates
     /// that the outcomes say to commit. Without memory nothing changes.
     ///
-    /// Takes a step for each candidate, and for each row that changes two searches, a copy of its name and image, a step
-    /// for each of its versions that are kept, and a copy of a page of rows, with their keys and the pointers to their
-    /// versions.
+    /// Takes a step for each candidate, and for each row that changes two searches, a copy of its name and image, a copy
+    /// of its list of versions, which share their images, and a copy of a page of rows, with their keys and the pointers
+    /// to their versions. Where the horizon is at most 64 epochs back, a row has at most 65 versions.
     pub fn apply_epoch(
         &mut self,
         epoch: Epoch,
@@ -204,8 +224,9 @@ impl Versions {
     /// the newest one unless it is a removal. Without memory nothing changes.
     ///
     /// Takes a step for each epoch after the horizon, and for each row that an epoch up to the new horizon changed a
-    /// search and a step for each of its versions that is left; where not all of them are, a second search and a copy
-    /// of a page of rows, with their keys and the pointers to their versions.
+    /// search and a look at each of its versions that is newer than the horizon. Where all of a row's versions are left
+    /// that is all, and no memory is taken; else there is a copy of the list of those that are, a second search, and a
+    /// copy of a page of rows, with their keys and the pointers to their versions.
     pub fn trim(&mut self, horizon: Epoch) -> Result<(), NoMemory>
         requires from { self.old.horizon ≤ horizon }
         requires upto { horizon ≤ self.old.applied }
@@ -215,9 +236,8 @@ impl Versions {
     {
         let mut rows = self.rows.fork()?;
         cut_noted(self.alloc, &mut rows, self.notes.as_slice(), horizon)?;
-        let notes = later_notes(self.alloc, self.notes.as_slice(), horizon)?;
+        leave_later(&mut self.notes, horizon);
         self.rows = rows;
-        self.notes = notes;
         self.horizon = horizon;
         Ok(())
     }

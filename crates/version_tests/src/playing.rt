@@ -1,6 +1,6 @@
 //! Versions that are played with by lines.
 use crate::epochs::{apply, apply_many};
-use crate::telling::{checked, listed, read, told_of};
+use crate::telling::{checked, last_upto, listed, read, told_of};
 use std::alloc::Global;
 use std::mem::swap;
 use std::test::Fail;
@@ -51,11 +51,17 @@ fn told_of_rows(alloc: Global, versions: &Versions, words: &str) -> Result<Strin
     listed(alloc, versions, first, last, epoch.parse()?)
 }
 
+fn told_of_change(alloc: Global, versions: &Versions, words: &str) -> Result<String, Fail> {
+    let (row, epoch) = words.split_once(' ').ok_or("no epoch")?;
+    last_upto(alloc, versions, row, epoch.parse()?)
+}
+
 /// What the versions are asked.
 fn told(alloc: Global, versions: &Versions, verb: &str, words: &str) -> Result<String, Fail> {
     match verb {
         "row" => told_of_row(alloc, versions, words),
         "rows" => told_of_rows(alloc, versions, words),
+        "last" => told_of_change(alloc, versions, words),
         "check" => checked(alloc, versions, words.parse()?),
         _ => Err("no such line".into()),
     }

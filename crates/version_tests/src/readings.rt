@@ -14,6 +14,15 @@ row 2 => 0- 1(20) 2(20) 3(20) last 1
 row 3 => 0- 1- 2- 3- last 0
 row 4 => 0- 1(40) 2(40) 3(40) last 1
 row 5 => 0- 1- 2- 3- last 2
+last 1 0 => 0
+last 1 1 => 1
+last 1 2 => 2
+last 1 3 => 3
+last 2 2 => 1
+last 2 3 => 1
+last 3 3 => 0
+last 5 1 => 0
+last 5 3 => 2
 check 0 => not too old";
 
 #[test]
@@ -31,6 +40,12 @@ apply 4=41
 trim 2
 check 1 => too old, from 2 on
 check 2 => not too old
+last 1 2 => 2
+last 1 3 => 3
+last 2 3 => 1
+last 4 3 => 1
+last 4 4 => 4
+last 5 4 => 0
 row 1 => 2(11) 3- 4- last 3
 row 2 => 2(20) 3(20) 4(20) last 1
 row 4 => 2(40) 3(40) 4(41) last 4
@@ -96,6 +111,26 @@ fn old_epochs_are_read_from_the_horizon_on(rt: HostRuntime) -> Result<(), Fail> 
     Ok(())
 }
 
+/// A fork is trimmed as what it was made of would be.
+const FORK_TRIMMED: &str = "\
+apply 1=10 2=20 3=30
+apply -1 2=21
+fork
+swap
+trim 2
+row 1 => 2- last 0
+row 2 => 2(21) last 2
+row 3 => 2(30) last 1
+fork
+swap
+apply -2 -3
+trim 3
+row 2 => 3- last 0
+row 3 => 3- last 0
+swap
+row 2 => 2(21) last 2
+row 3 => 2(30) last 1";
+
 /// What is applied and trimmed behind a fork changes neither it nor what it was made of.
 const FORKED: &str = "\
 apply 1=10 2=20
@@ -122,6 +157,7 @@ row 3 => 3(30) last 3";
 #[test]
 fn a_fork_stays_as_it_was(rt: HostRuntime) -> Result<(), Fail> {
     assert_eq!(rt; first_wrong(rt.alloc(), FORKED)?, None);
+    assert_eq!(rt; first_wrong(rt.alloc(), FORK_TRIMMED)?, None);
     Ok(())
 }
 

@@ -67,6 +67,18 @@ pub fn told_of(alloc: Global, versions: &Versions, row: &str) -> Result<String, 
     Ok(out)
 }
 
+/// The row's last change up to the epoch.
+pub fn last_upto(
+    alloc: Global,
+    versions: &Versions,
+    row: &str,
+    epoch: Epoch,
+) -> Result<String, Fail> {
+    let row = row_of(alloc, row)?;
+    let last = versions.last_change_at(&row, epoch);
+    Ok(format!(in alloc; "{last}")?)
+}
+
 /// The rows that there were after the epoch, from the first one on and before the last: their keys and cells, how many
 /// they are where they are more than [`MOST_LISTED`], or `none`.
 pub fn listed(

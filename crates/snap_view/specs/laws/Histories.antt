@@ -5,10 +5,10 @@ use Rattle.geo_schema.specs.Schemas.{Tables}
 use Rattle.index_store.specs.declared.pair.IndexPair.{IndexPair}
 use Rattle.index_store.specs.Indexes.{IsIndexOf}
 use Rattle.index_store.specs.Pairs.{row_of, IsPairIn}
-use Rattle.version_store.specs.Chains.{image_at}
+use Rattle.version_store.specs.Chains.{image_at, change_at, newest_epoch}
 use Rattle.version_store.specs.History.{Kept, IsApplied, IsHistoryOf, IsKept, IsTrimmed, TellsChange, chain_of}
-use Rattle.version_store.specs.laws.Growing.{change_after, change_upto}
-use Rattle.version_store.specs.laws.Keeping.{earlier_stay, falls_of, later_stay, version_is_read, whole_of}
+use Rattle.version_store.specs.laws.Growing.{change_told}
+use Rattle.version_store.specs.laws.Keeping.{earlier_stay, falls_of, later_stay, newest_is_told, version_is_read, whole_of}
 use Rattle.version_store.specs.laws.Listing.{listed_is_read, listed_rises, same_tables, table_is_snapshot}
 use Rattle.write_set.specs.Journal.{Journal, Placed, Extends, epochs_of}
 use Rattle.write_set.specs.laws.Sealing.{epochs_stay, sealed_grows}
@@ -69,11 +69,12 @@ same_of_journal journal one other one_is other_is epoch = one_is.rows ∙ (ap (�
 
 -- ---- last changes
 
-pub tells_change : (journal : Journal) (held : Held) (row : RowId) → IsHistoryOf journal held.versions → held.epoch ≡ held.versions.applied →
+pub tells_change : (journal : Journal) (held : Held) (row : RowId) → IsHistoryOf journal held.versions → IsSnapshot held →
     TellsChange held.versions.horizon (last_change (epochs_of journal held.epoch) row) (last_held held row)
-tells_change journal held row history last =
-    subst (λ epoch. TellsChange held.versions.horizon (last_change (epochs_of journal epoch) row) (last_held held row)) (sym last)
-    (record { later = change_after journal held.versions row history; upto = change_upto journal held.versions row history })
+tells_change journal held row history is = change_told journal held.versions row held.epoch history is.from is.upto
+
+pub tells_newest : (held : Held) (row : RowId) → IsSnapshot held → held.epoch ≡ held.versions.applied → last_held held row ≡ newest_epoch (chain_of held.versions row)
+tells_newest held row is last = ap (change_at (chain_of held.versions row)) last ∙ newest_is_told held.versions row is.order
 
 -- ---- indexes
 

@@ -35,6 +35,11 @@ abbrev pub all_written : ℕ → List ChangeOfRow → Rows → Rows
 all_written epoch [] rows = rows
 all_written epoch (p ∷ ps) rows = all_written epoch ps (written epoch p rows)
 
+-- the rows with these versions in the place of those of the row, and without the row where there are none
+abbrev pub replaced : RowId → Chain → Rows → Rows
+replaced row [] rows = without row_cmp row rows
+replaced row (version ∷ older) rows = put_in row_cmp row (version ∷ older) rows
+
 -- the rows with these versions of the row, of which there were so many: as they were where these are as many, and without the row where there are none
 abbrev pub settled : ℕ → RowId → Chain → Rows → Rows
 settled before row [] rows = without row_cmp row rows

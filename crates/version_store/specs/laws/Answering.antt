@@ -12,9 +12,9 @@ use Rattle.write_set.specs.Merge.{committed, last_change}
 use Rattle.write_set.specs.Snapshot.{changes_of, image_after, snap_at}
 use Rattle.write_set.specs.laws.Placing.{length_epochs}
 use Rattle.write_set.specs.laws.Isolating.{after_none}
-use Rattle.version_store.specs.Chains.{Version, Chain, image_at, newest_image, newest_epoch}
+use Rattle.version_store.specs.Chains.{Version, Chain, image_at, change_at, newest_image, newest_epoch}
 use Rattle.version_store.specs.History.{versions_of}
-use Rattle.version_store.specs.laws.Trimming.{found_first}
+use Rattle.version_store.specs.laws.Trimming.{found_first, told_first}
 
 -- candidates change a row where their changes, one after another, do
 pub any_changes : (cs : List Placed) (row : RowId) → changes_row row (changes_of cs) ≡ list_any (λ c. changes_row row c.set) cs
@@ -26,6 +26,10 @@ any_changes (c ∷ cs) row =
 pub newest_answers : (chain : Chain) (epoch : ℕ) → newest_epoch chain ≤ epoch → image_at chain epoch ≡ newest_image chain
 newest_answers [] epoch within = refl
 newest_answers (version ∷ older) epoch within = found_first version older epoch true (grind (arith, nat_tests, within))
+
+pub newest_told : (chain : Chain) (epoch : ℕ) → newest_epoch chain ≤ epoch → change_at chain epoch ≡ newest_epoch chain
+newest_told [] epoch within = refl
+newest_told (version ∷ older) epoch within = told_first version older epoch true (grind (arith, nat_tests, within))
 
 -- the newest version is of the row's last change
 pub newest_is_last : (epochs : Epochs) (row : RowId) → newest_epoch (versions_of epochs row) ≡ last_change epochs row
@@ -107,3 +111,39 @@ versions_answer journal zero row = at_first
     at_first zero within = refl
     at_first (suc epoch) within = absurd (omega (arith, within))
 versions_answer journal (suc last) row = next_answers journal last row (versions_answer journal last row)
+
+-- and tell the row's last change up to then
+abbrev Tell : Journal → ℕ → RowId → Type 0
+Tell journal last row = (epoch : ℕ) → epoch ≤ last → change_at (versions_of (epochs_of journal last) row) epoch ≡ last_change (epochs_of journal epoch) row
+
+pub versions_tell : (journal : Journal) (last : ℕ) (row : RowId) → Tell journal last row
+versions_tell journal zero row = at_first
+  where
+    at_first : Tell journal zero row
+    at_first zero within = refl
+    at_first (suc epoch) within = absurd (omega (arith, within))
+versions_tell journal (suc last) row = next (versions_tell journal last row)
+  where
+    older : Chain
+    older = versions_of (epochs_of journal last) row
+
+    newer : Version
+    newer = record { epoch = length (epochs_of journal last) + 1; image = image_after (changes_of (committed (epochs_of journal (suc last)))) row (newest_image older) }
+
+    earlier : (b : Bool) (epoch : ℕ) → epoch ≤ last → change_at (cond b (newer ∷ older) older) epoch ≡ change_at older epoch
+    earlier true epoch within = told_first newer older epoch false (grind (arith, nat_tests, length_epochs journal last, within))
+    earlier false epoch within = refl
+
+    at_last : change_at (versions_of (epochs_of journal (suc last)) row) (suc last) ≡ last_change (epochs_of journal (suc last)) row
+    at_last =
+        newest_told (versions_of (epochs_of journal (suc last)) row) (suc last) (newest_within journal (suc last) row)
+        ∙ newest_is_last (epochs_of journal (suc last)) row
+
+    next : Tell journal last row → Tell journal (suc last) row
+    next rest epoch within =
+        ⊎_elim
+        (λ before.
+        let upto : epoch ≤ last = omega (arith, before) in
+        earlier (list_any (λ c. changes_row row c.set) (committed (epochs_of journal (suc last)))) epoch upto ∙ rest epoch upto)
+        (λ other. subst (λ e. change_at (versions_of (epochs_of journal (suc last)) row) e ≡ last_change (epochs_of journal e) row) (omega (arith, other, within)) at_last)
+        (cases_lt epoch (suc last))

@@ -9,10 +9,10 @@ use Rattle.write_set.specs.Snapshot.{snap_at}
 use Rattle.write_set.specs.laws.Committing.{verdicts_commit}
 use Rattle.write_set.specs.laws.Placing.{length_epochs}
 use Rattle.write_set.specs.laws.Sealing.{epochs_stay, sealed_grows}
-use Rattle.version_store.specs.Chains.{image_at, newest_epoch, grown, kept_at}
-use Rattle.version_store.specs.History.{Kept, chain_of, versions_of, IsHistoryOf, AreNextOf, IsApplied, IsTrimmed}
-use Rattle.version_store.specs.laws.Trimming.{answers_from, kept_again, newest_after, newest_upto, grown_kept}
-use Rattle.version_store.specs.laws.Answering.{newest_is_last, versions_answer}
+use Rattle.version_store.specs.Chains.{image_at, change_at, newest_epoch, grown, kept_at}
+use Rattle.version_store.specs.History.{Kept, chain_of, versions_of, IsHistoryOf, AreNextOf, IsApplied, IsTrimmed, TellsChange}
+use Rattle.version_store.specs.laws.Trimming.{answers_from, kept_again, newest_after, newest_upto, grown_kept, retold, told_from}
+use Rattle.version_store.specs.laws.Answering.{newest_is_last, versions_answer, versions_tell}
 
 -- ---- what is answered
 
@@ -38,6 +38,12 @@ change_upto journal kept row history earlier =
     let last = newest_is_last (epochs_of journal kept.applied) row in
     let left = newest_upto kept.horizon (versions_of (epochs_of journal kept.applied) row) (omega (arith, earlier, last)) in
     omega (arith, left, ap newest_epoch (history.chains row))
+
+pub change_told : (journal : Journal) (kept : Kept) (row : RowId) (epoch : ℕ) → IsHistoryOf journal kept →
+    kept.horizon ≤ epoch → epoch ≤ kept.applied → TellsChange kept.horizon (last_change (epochs_of journal epoch) row) (change_at (chain_of kept row) epoch)
+change_told journal kept row epoch history from upto =
+    retold kept.horizon _ _ _ _ (sym (versions_tell journal kept.applied row epoch upto)) (ap (λ chain. change_at chain epoch) (history.chains row))
+    (told_from kept.horizon (versions_of (epochs_of journal kept.applied) row) epoch from)
 
 -- ---- what is kept after each change
 

@@ -14,10 +14,10 @@ use Rattle.write_set.specs.laws.Among.{among_none, among_first, among_later, amo
 use Rattle.write_set.specs.laws.Isolating.{after_none}
 use Rattle.write_set.specs.laws.Rivals.{row_same}
 use Rattle.page_map.specs.Pairs.{found_at}
-use Rattle.version_store.specs.Chains.{Version, Chain, FallsBelow, image_at, newest_image, newest_epoch, grown, kept_at}
+use Rattle.version_store.specs.Chains.{Version, Chain, FallsBelow, image_at, change_at, newest_image, newest_epoch, grown, kept_at}
 use Rattle.version_store.specs.History.{Kept, chain_of, IsKept, IsApplied, IsTrimmed}
 use Rattle.version_store.specs.laws.Trimming.{found_first, answers_from}
-use Rattle.version_store.specs.laws.Answering.{any_changes, newest_answers}
+use Rattle.version_store.specs.laws.Answering.{any_changes, newest_answers, newest_told}
 
 -- ---- what is kept of a row
 
@@ -43,6 +43,10 @@ falls_newest last (version ∷ older) falls = omega (arith, falls.1)
 pub newest_is_read : (kept : Kept) (row : RowId) → IsKept kept → image_at (chain_of kept row) kept.applied ≡ newest_image (chain_of kept row)
 newest_is_read kept row lawful =
     newest_answers (chain_of kept row) kept.applied (falls_newest kept.applied (chain_of kept row) (falls_of kept lawful row))
+
+pub newest_is_told : (kept : Kept) (row : RowId) → IsKept kept → change_at (chain_of kept row) kept.applied ≡ newest_epoch (chain_of kept row)
+newest_is_told kept row lawful =
+    newest_told (chain_of kept row) kept.applied (falls_newest kept.applied (chain_of kept row) (falls_of kept lawful row))
 
 -- ---- after an epoch is applied
 

@@ -1,5 +1,5 @@
 -- Laws: what a horizon leaves of the versions of a row.
-use Rattle.std.proofs.Common.{◌≡◌, ℕ, ◌<◌, ◌≤◌, Bool, true, false, cond, nat_le, nat_lt, Option, None, Some, List, [], ◌∷◌, find, refl, sym, ap, ◌∙◌, arith}
+use Rattle.std.proofs.Common.{◌≡◌, ℕ, ◌<◌, ◌≤◌, Bool, true, false, cond, nat_le, nat_lt, Option, None, Some, List, [], ◌∷◌, find, refl, sym, ap, ◌∙◌, subst, arith}
 use Rattle.std.specs.List.{list_any}
 use Rattle.std.specs.Option.{is_some}
 use Rattle.std.proofs.lemmas.Bool.Decides.{nat_tests}
@@ -8,7 +8,8 @@ use Rattle.geo_base.specs.declared.row_image.RowImage.{RowImage}
 use Rattle.write_set.specs.Sets.{changes_row}
 use Rattle.write_set.specs.Journal.{Placed}
 use Rattle.write_set.specs.Snapshot.{changes_of, image_after}
-use Rattle.version_store.specs.Chains.{Version, Chain, image_of, image_at, newest_image, newest_epoch, grown, standing, kept_at}
+use Rattle.version_store.specs.Chains.{Version, Chain, image_of, image_at, epoch_of, change_at, newest_image, newest_epoch, grown, standing, kept_at}
+use Rattle.version_store.specs.History.{TellsChange}
 
 upto : (a b : ℕ) → a ≤ b → nat_le a b ≡ true
 upto a b h = grind (arith, nat_tests, h)
@@ -24,6 +25,12 @@ pub found_first : (version : Version) (older : Chain) (epoch : ℕ) (b : Bool) �
     image_at (version ∷ older) epoch ≡ cond b version.image (image_at older epoch)
 found_first version older epoch true is = ap (λ b. image_of (cond b (Some version) (find (λ v. nat_le v.epoch epoch) older))) is
 found_first version older epoch false is = ap (λ b. image_of (cond b (Some version) (find (λ v. nat_le v.epoch epoch) older))) is
+
+-- and which epoch is told
+pub told_first : (version : Version) (older : Chain) (epoch : ℕ) (b : Bool) → nat_le version.epoch epoch ≡ b →
+    change_at (version ∷ older) epoch ≡ cond b version.epoch (change_at older epoch)
+told_first version older epoch true is = ap (λ b. epoch_of (cond b (Some version) (find (λ v. nat_le v.epoch epoch) older))) is
+told_first version older epoch false is = ap (λ b. epoch_of (cond b (Some version) (find (λ v. nat_le v.epoch epoch) older))) is
 
 -- a version that is left or not by whether it has an image
 abbrev left : Bool → Version → Chain
@@ -121,6 +128,51 @@ newest_upto horizon (version ∷ older) within =
     by : (b : Bool) → b ≡ false → newest_epoch (cond b (version ∷ kept_at horizon older) (standing version)) ≤ horizon
     by true is = cc
     by false is = standing_below version horizon within
+
+-- ---- the last change up to an epoch
+
+-- the same is told of the same
+pub retold : (horizon a b c d : ℕ) → a ≡ b → c ≡ d → TellsChange horizon b d → TellsChange horizon a c
+retold horizon a b c d last told tells = subst (λ n. TellsChange horizon n c) (sym last) (subst (TellsChange horizon b) (sym told) tells)
+
+standing_told : (version : Version) (horizon epoch : ℕ) → version.epoch ≤ horizon → change_at (standing version) epoch ≤ horizon
+standing_told version horizon epoch within = by (is_some version.image)
+  where
+    least : (b : Bool) → cond b version.epoch 0 ≤ horizon
+    least true = within
+    least false = omega arith
+
+    by : (b : Bool) → change_at (left b version) epoch ≤ horizon
+    by true = subst (λ n. n ≤ horizon) (sym (told_first version [] epoch (nat_le version.epoch epoch) refl)) (least (nat_le version.epoch epoch))
+    by false = omega arith
+
+-- what a horizon leaves tells the last change up to an epoch from the horizon on, where that is after the horizon
+pub told_from : (horizon : ℕ) (chain : Chain) (epoch : ℕ) → horizon ≤ epoch → TellsChange horizon (change_at chain epoch) (change_at (kept_at horizon chain) epoch)
+told_from horizon [] epoch from = record { later = λ after. refl; upto = λ within. within }
+told_from horizon (version ∷ older) epoch from = by (nat_lt horizon version.epoch) refl (told_from horizon older epoch from)
+  where
+    whole : Bool → Chain
+    whole b = cond b (version ∷ kept_at horizon older) (standing version)
+
+    newer : (b : Bool) → TellsChange horizon (change_at older epoch) (change_at (kept_at horizon older) epoch) →
+        TellsChange horizon (cond b version.epoch (change_at older epoch)) (cond b version.epoch (change_at (kept_at horizon older) epoch))
+    newer true rest = record { later = λ after. refl; upto = λ within. within }
+    newer false rest = rest
+
+    by : (b : Bool) → nat_lt horizon version.epoch ≡ b → TellsChange horizon (change_at older epoch) (change_at (kept_at horizon older) epoch) →
+        TellsChange horizon (change_at (version ∷ older) epoch) (change_at (whole b) epoch)
+    by true is rest =
+        retold horizon _ _ _ _ (told_first version older epoch (nat_le version.epoch epoch) refl)
+        (told_first version (kept_at horizon older) epoch (nat_le version.epoch epoch) refl) (newer (nat_le version.epoch epoch) rest)
+    by false is rest =
+        let below : version.epoch ≤ horizon = not_later version.epoch horizon is in
+        let told = told_first version older epoch true (upto version.epoch epoch (omega (arith, below, from))) in
+        record {
+          later = λ after. absurd (omega (arith, after, below, told));
+          upto = λ within. standing_told version horizon epoch below;
+        }
+
+-- ---- what is added
 
 -- an epoch after the horizon adds to what is left as it adds to all
 pub grown_kept : (horizon epoch : ℕ) (committed : List Placed) (row : RowId) (chain : Chain) → horizon < epoch →

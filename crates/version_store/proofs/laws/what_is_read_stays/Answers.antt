@@ -1,4 +1,4 @@
-use Rattle.version_store.specs.laws.Keeping.{earlier_stay, next_is_read, unchanged_is_read, newest_is_read, later_stay}
+use Rattle.version_store.specs.laws.Keeping.{earlier_stay, next_is_read, unchanged_is_read, newest_is_read, newest_is_told, later_stay}
 use Rattle.version_store.proofs.laws.what_is_read_stays.Goals as goal
 
 pub returns-clause-earlier : goal.returns-clause-earlier
@@ -12,6 +12,9 @@ returns-clause-unchanged c committed old new row lawful step none = unchanged_is
 
 pub returns-clause-newest : goal.returns-clause-newest
 returns-clause-newest c = newest_is_read
+
+pub returns-clause-change : goal.returns-clause-change
+returns-clause-change c = newest_is_told
 
 pub returns-clause-trimmed : goal.returns-clause-trimmed
 returns-clause-trimmed c = later_stay

@@ -1,4 +1,4 @@
-use Rattle.std.proofs.Common.{filter, nat_lt, ap, ◌∙◌, subst, arith}
+use Rattle.std.proofs.Common.{ap, ◌∙◌, subst, arith}
 use Rattle.version_store.specs.History.{Kept, IsTrimmed}
 use Rattle.version_store.specs.laws.Growing.{trimmed}
 use Rattle.version_store.specs.inner.Noting.{rows_upto}
@@ -16,8 +16,8 @@ invariant_of-self c =
     (c.in_ok-cut_noted.ensures
     ∙ ap (λ notes. all_cut c.args.horizon (rows_upto c.args.horizon notes) c.in_ok-rows.rows) c.as_slice.ensures.value
     ∙ ap (all_cut c.args.horizon (rows_upto c.args.horizon c.self.inside.notes.items)) c.in_ok-rows.ensures)
-    c.in_ok-notes.notes.items
-    (c.in_ok-notes.ensures ∙ ap (filter (λ n. nat_lt c.args.horizon n.epoch)) c.as_slice-2.ensures.value)
+    c.leave_later.new.notes.items
+    c.leave_later.ensures
 
 pub returns-clause-trimmed : goal.returns-clause-trimmed
 returns-clause-trimmed c =
