@@ -1,0 +1,113 @@
+-- Whether bytes spell a batch of the log, and what is replied by that.
+use Rattle.std.proofs.Common.{◌≡◌, ◌≢◌, ℕ, zero, suc, ◌+◌, ◌-◌, ◌<◌, ◌≤◌, Bool, true, false, cond, Option, None, Some, List, [], ◌∷◌, ◌++◌, length, refl, sym, ap, ◌∙◌, subst, arith, nat_eq}
+use Rattle.std.specs.Prelude.{IfSome, is_some, is_none, slice_index_or}
+use Rattle.std.specs.Cmp.Lexicographic.{pointwise, same_text, other_text}
+use Rattle.std.specs.List.{slice_get}
+use Rattle.geo_io.specs.Told.{Lists, list_of}
+use Rattle.geo_schema.specs.Schemas.{Tables, IsSchema}
+use Rattle.write_set.specs.declared.batch.Batch.{Batch}
+use Rattle.set_codec.specs.declared.format.Format.TheVariants.{Ggb2}
+use Rattle.set_codec.specs.Alone.{SpellsBatch}
+use Rattle.set_codec.specs.Fits.{FitsRegions, IsSpelling}
+use Rattle.set_codec.specs.Spelling.{batch_spelling}
+use Rattle.set_codec.specs.laws.Batches.{batch_alone, batch_spellings}
+use Rattle.own_log.specs.Logs.{IsEntry, SpellsLog, AreOfLog}
+use Rattle.own_log.specs.laws.Logs.{of_log_by_place, spelled_by_place}
+use Rattle.region_core.specs.declared.fault.FetchFault.{FetchFault}
+use Rattle.region_core.specs.declared.fault.FetchFault.TheVariants as of_fetch
+use Rattle.region_core.specs.Region.{Standing, batch_for, own_batch}
+use Rattle.region_core.specs.Refusals.{fetch_refusal}
+use Rattle.region_core.specs.Lawful.{IsStanding}
+use Rattle.region_core.specs.Calls.{AreItsKeepers, Replies, RefusesReply}
+use Rattle.region_core.specs.inner.Fetching.{Compares}
+
+-- ---- bytes against a batch
+
+module _ (s : Standing) (schema : IsSchema s.tables) where
+  own_spelling : (batch : Batch) → FitsRegions s.tables s.regions batch → SpellsBatch s.tables s.regions (batch_spelling Ggb2 s.tables batch) batch
+  own_spelling batch fits = (fits, (batch_spellings s.tables batch).newer)
+
+  -- batches of one spelling are one
+  same_batch : (a b : Batch) → FitsRegions s.tables s.regions a → FitsRegions s.tables s.regions b → batch_spelling Ggb2 s.tables a ≡ batch_spelling Ggb2 s.tables b → a ≡ b
+  same_batch a b p q same =
+      (batch_alone s.tables s.regions a b (batch_spelling Ggb2 s.tables a) (batch_spelling Ggb2 s.tables b) [] [] schema (own_spelling a p) (own_spelling b q) (ap (λ (l : List ℕ). l ++ []) same)).0
+
+  -- the batch that was read of the bytes is this one where the two have one spelling
+  pub compared : (bytes again kept : List ℕ) (read batch : Batch) (equal : Bool) → FitsRegions s.tables s.regions read → FitsRegions s.tables s.regions batch →
+      IsSpelling s.tables read bytes → ((other : Batch) → SpellsBatch s.tables s.regions bytes other → read ≡ other) →
+      again ≡ batch_spelling Ggb2 s.tables read → kept ≡ batch_spelling Ggb2 s.tables batch → equal ≡ pointwise nat_eq again kept → Compares s bytes batch equal
+  compared bytes again kept read batch true fits_read fits spelled only again_is kept_is test =
+      let same : read ≡ batch = same_batch read batch fits_read fits (sym again_is ∙ same_text again kept test ∙ kept_is) in
+      (fits, subst (λ (x : Batch). IsSpelling s.tables x bytes) same spelled)
+  compared bytes again kept read batch false fits_read fits spelled only again_is kept_is test =
+      λ spells. other_text again kept test (again_is ∙ ap (batch_spelling Ggb2 s.tables) (only batch spells) ∙ sym kept_is)
+
+-- ---- the batch of an epoch
+
+there_got : {X : Type 0} → (xs : List X) (place : ℕ) (x : X) → slice_get xs place ≡ Some x → place < length xs
+there_got [] place x e = absurd (cc)
+there_got (y ∷ ys) zero x e = omega arith
+there_got (y ∷ ys) (suc place) x e = let rest : place < length ys = there_got ys place x e in omega (arith, rest)
+
+-- an epoch of which there is a batch
+pub record HasBatch (s : Standing) (epoch : ℕ) (batch : Batch) : Type 0 where
+  pub first : 1 ≤ epoch
+  pub within : epoch ≤ length s.log
+  pub at : slice_get s.log (epoch - 1) ≡ Some batch
+  pub fits : FitsRegions s.tables s.regions batch
+
+module _ (s : Standing) (h : IsStanding s) where
+  pub has_batch : (epoch : ℕ) (batch : Batch) → own_batch s epoch ≡ Some batch → HasBatch s epoch batch
+  has_batch zero batch is = absurd (cc)
+  has_batch (suc place) batch is = record {
+    first = omega arith;
+    within = let there : place < length s.log = there_got s.log place batch is in omega (arith, there);
+    at = let same : suc place - 1 ≡ place = omega arith in ap (slice_get s.log) same ∙ is;
+    fits = (of_log_by_place s.tables s.regions s.number s.log place batch h.log is).of_log.fits;
+  }
+
+  -- the keepers' list of the region has an entry of it
+  pub has_entry : (told : Option Lists) (epoch : ℕ) (batch : Batch) → AreItsKeepers s told → HasBatch s epoch batch → IfSome told (λ all. epoch ≤ length (list_of all s.number))
+  has_entry None epoch batch keepers has = tt
+  has_entry (Some all) epoch batch keepers has =
+      let same : length (list_of all s.number) ≡ length s.log = (spelled_by_place s.tables s.regions s.number (list_of all s.number) s.log keepers).all in
+      omega (arith, same, has.within)
+
+  entry_spells : (all : Lists) (epoch : ℕ) (batch : Batch) → SpellsLog s.tables s.regions s.number (list_of all s.number) s.log → HasBatch s epoch batch →
+      SpellsBatch s.tables s.regions (slice_index_or (list_of all s.number) (epoch - 1) []) batch
+  entry_spells all epoch batch keepers has =
+      let by_place = spelled_by_place s.tables s.regions s.number (list_of all s.number) s.log keepers in
+      let within : epoch - 1 < length (list_of all s.number) = omega (arith, by_place.all, has.within, has.first) in
+      (by_place.each (epoch - 1) (slice_index_or (list_of all s.number) (epoch - 1) []) batch (get_there (list_of all s.number) (epoch - 1) within) has.at).spelled
+    where
+      get_there : (xs : List (List ℕ)) (place : ℕ) → place < length xs → slice_get xs place ≡ Some (slice_index_or xs place [])
+      get_there [] place within = absurd (omega arith)
+      get_there (x ∷ xs) zero within = refl
+      get_there (x ∷ xs) (suc place) within = get_there xs place (omega arith)
+
+  pub up_goes : s.up ≡ true → fetch_refusal s ≡ None
+  up_goes up = ap (λ (b : Bool). cond b None (Some of_fetch.Down)) up
+
+  pub down_refuses : s.up ≡ false → fetch_refusal s ≡ Some of_fetch.Down
+  down_refuses down = ap (λ (b : Bool). cond b None (Some of_fetch.Down)) down
+
+  -- the bytes are replied where they spell the batch
+  pub replies : (told : Option Lists) (epoch : ℕ) (bytes : List ℕ) (batch : Batch) → s.up ≡ true → own_batch s epoch ≡ Some batch → SpellsBatch s.tables s.regions bytes batch →
+      IfSome told (λ all. bytes ≡ slice_index_or (list_of all s.number) (epoch - 1) []) → Replies epoch s told (Some bytes)
+  replies told epoch bytes batch up own spells is = (up_goes up, (batch, own, spells), by told is)
+    where
+      by : (o : Option Lists) → IfSome o (λ all. bytes ≡ slice_index_or (list_of all s.number) (epoch - 1) []) → IfSome o (λ all. slice_index_or (list_of all s.number) (epoch - 1) [] ≡ bytes)
+      by None e = tt
+      by (Some all) e = sym e
+
+  -- and else the keepers don't tell
+  pub bad_log : (told : Option Lists) (epoch : ℕ) (bytes : List ℕ) (batch : Batch) → s.up ≡ true → own_batch s epoch ≡ Some batch → AreItsKeepers s told → ¬ (SpellsBatch s.tables s.regions bytes batch) →
+      IfSome told (λ all. bytes ≡ slice_index_or (list_of all s.number) (epoch - 1) []) → RefusesReply epoch s told (of_fetch.BadLog epoch)
+  bad_log told epoch bytes batch up own keepers other is = (up_goes up, λ none. some_not_none batch (sym own ∙ none), refl, by told keepers is)
+    where
+      some_not_none : (b : Batch) → Some b ≡ None → ⊥
+      some_not_none b e = cc
+
+      by : (o : Option Lists) → AreItsKeepers s o → IfSome o (λ all. bytes ≡ slice_index_or (list_of all s.number) (epoch - 1) []) → o ≡ None
+      by None k e = refl
+      by (Some all) k e = absurd (other (subst (λ (l : List ℕ). SpellsBatch s.tables s.regions l batch) (sym e) (entry_spells all epoch batch k (has_batch epoch batch own))))
