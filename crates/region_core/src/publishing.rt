@@ -146,11 +146,7 @@ fn own_outcomes(
 }
 
 /// Adds a copy of each of the outcomes.
-fn add_copies(
-    alloc: Global,
-    own: &mut Vec<Outcome>,
-    outcomes: &[Outcome],
-) -> Result<(), NoMemory>
+fn add_copies(alloc: Global, own: &mut Vec<Outcome>, outcomes: &[Outcome]) -> Result<(), NoMemory>
     ensures { OnOk result (own.new.items ≡ own.old.items ++ outcomes.now) }
 {
     for outcome in outcomes {
