@@ -8,7 +8,8 @@ ghost use Rattle.std.specs.Prelude.{◌<◌, ◌≤◌, IfOk};
 use crate::keeping::keepers_for;
 use crate::playing::Played;
 use crate::telling::{
-    count_kept, entry_text, log_text, outcome_text, reply_text, round_text, rows_text, sealed, standing, submitted, written,
+    count_kept, entry_text, log_text, outcome_text, reply_text, round_text, rows_text, sealed,
+    standing, submitted, written,
 };
 use codec_kit::{halves, schema_named};
 use geo_base::Epoch;
@@ -54,6 +55,19 @@ fn turns(play: &mut Played, words: &str) -> Result<String, Fail> {
     let count: u32 = words.parse()?;
     for _ in 0..count {
         drop(play.seal()??);
+        play.publish(1)?;
+    }
+    written(play.alloc, play.region.published())
+}
+
+/// Seals, takes a batch without candidates of region 1 in, and publishes, so often.
+fn both(play: &mut Played, words: &str) -> Result<String, Fail> {
+    let count: u32 = words.parse()?;
+    for _ in 0..count {
+        let epoch = play.region.open_epoch();
+        let other = format!(in play.alloc; "1 #{epoch} #0")?;
+        drop(play.seal()??);
+        play.arrive(&other)??;
         play.publish(1)?;
     }
     written(play.alloc, play.region.published())
@@ -114,6 +128,7 @@ fn act(play: &mut Played, verb: &str, words: &str) -> Result<String, Fail> {
         }
         "seals" => seals(play, words),
         "turns" => turns(play, words),
+        "both" => both(play, words),
         "arrive" => written(play.alloc, play.arrive(words)?),
         "publish" => written(play.alloc, play.publish(seats_of(words)?)?),
         "twice" => written(play.alloc, play.publish_twice(seats_of(words)?)?),
@@ -160,7 +175,12 @@ fn play_lines(play: &mut Played, lines: &str) -> Result<(), Fail> {
 
 fn play_script(alloc: Global, script: &str) -> Result<(), Fail> {
     let (first, lines) = halves(script, "\n")?;
-    let mut play = opened(alloc, first.strip_prefix("open ").ok_or("a script that opens nothing")?)?;
+    let mut play = opened(
+        alloc,
+        first
+            .strip_prefix("open ")
+            .ok_or("a script that opens nothing")?,
+    )?;
     let told = play_lines(&mut play, lines);
     drop(play);
     told

@@ -11,6 +11,8 @@ mod folder;
 #[cfg(test)]
 mod keeping;
 #[cfg(test)]
+mod limits;
+#[cfg(test)]
 mod lives;
 #[cfg(test)]
 mod making;
@@ -18,8 +20,6 @@ mod making;
 mod opening;
 #[cfg(test)]
 mod playing;
-#[cfg(test)]
-mod limits;
 #[cfg(test)]
 mod telling;
 #[cfg(test)]

@@ -103,8 +103,25 @@ round => Waiting { epoch: 1, have: 1 }
 arrive 1 #1 #0 => Ok(New)
 publish 1 => Published { epoch: 1, commits: 1, aborts: 0 }";
 
+/// After 65 epochs of two regions the first one crashes. It holds its own 65 batches again, and has published none of
+/// them: so it seals no more, and of the other region's batches it takes those of the first 64 epochs.
+const LONG: &str = "\
+open numbers 0 2 4294967294 / /
+both 65 => 65
+crash => false published 0 open 66 with 0 horizon 0 life 1
+arrive 1 #65 #0 => Err(Down)
+restart => Ok(65)
+stands => true published 0 open 66 with 0 horizon 0 life 1
+arrive 1 #64 #0 => Ok(New)
+arrive 1 #65 #0 => Ok(Far(64))
+seal => Ahead
+kept => 65
+fetch 65 GGB2 0 #65 #0 => true
+fetch 66 => none";
+
 #[test]
 fn regions_live_on_by_their_logs(rt: HostRuntime) -> Result<(), Fail> {
+    play(rt.alloc(), LONG)?;
     play(rt.alloc(), CRASHED)?;
     play(rt.alloc(), OPENED)?;
     play(rt.alloc(), FAILING)

@@ -35,7 +35,10 @@ pub fn batch_for(alloc: Global, region: &Region, words: &str) -> Result<Batch, F
 /// stands behind it in the bytes. A candidate of so many rows, whose word begins with `%`, has its own start 0.
 fn batch_words(alloc: Global, words: &str) -> Result<String, Fail> {
     let (start, rest) = halves(words, " ")?;
-    let epoch = start.parse::<Epoch>()?.checked_add(1).ok_or("a late start")?;
+    let epoch = start
+        .parse::<Epoch>()?
+        .checked_add(1)
+        .ok_or("a late start")?;
     if rest.starts_with('%') {
         return Ok(format!(in alloc; "0 #{epoch} #1 {rest}")?);
     }

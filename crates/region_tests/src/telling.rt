@@ -1,6 +1,6 @@
 //! What a region tells, as texts.
-use codec_kit::bytes_of;
 use crate::playing::Played;
+use codec_kit::bytes_of;
 use geo_base::{Cell, Epoch, Key, Outcome, RowId, print_row};
 use geo_io::{ByteList, MemKeepers};
 use merge_round::RoundInput;
@@ -24,11 +24,16 @@ pub fn standing(alloc: Global, region: &Region) -> Result<String, Fail> {
     let count = region.open_count();
     let horizon = region.horizon();
     let life = region.life();
-    Ok(format!(in alloc; "{up} published {published} open {open} with {count} horizon {horizon} life {life}")?)
+    Ok(format!(in alloc;
+        "{up} published {published} open {open} with {count} horizon {horizon} life {life}"
+    )?)
 }
 
 /// The ticket, or the fault with the number of rows that were handed back.
-pub fn submitted(alloc: Global, told: Result<Ticket, (SubmitFault, usize)>) -> Result<String, Fail> {
+pub fn submitted(
+    alloc: Global,
+    told: Result<Ticket, (SubmitFault, usize)>,
+) -> Result<String, Fail> {
     match told {
         Ok(Ticket { id, life }) => {
             Ok(format!(in alloc; "ticket {}.{}.{} of {life}", id.epoch, id.region, id.csn)?)

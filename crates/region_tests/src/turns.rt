@@ -75,8 +75,56 @@ arrive 0 #3 #1 #0 #1 0 3 @1 => Ok(Known)
 seal => 3 with 0 in 13 bytes, kept
 round => 3 after 2: 3.0/0 3.1/0";
 
+/// Which candidate of an epoch wins a row: the one that started later; of equal starts the one with the smaller number,
+/// whatever its region; and one that is beaten on another row beats all the same, though none of its rows change.
+const WINNERS: &str = "\
+open numbers 0 1 4294967294 / /
+submit 0 #1 0 1 @1 @10 => ticket 1.0.0 of 0
+turns 2 => 2
+submit 1 #1 0 1 @1 @11 => ticket 3.0.0 of 0
+submit 2 #1 0 1 @1 @12 => ticket 3.0.1 of 0
+seal => 3 with 2 in 69 bytes, kept
+publish 1 => Published { epoch: 3, commits: 1, aborts: 1 }
+outcome 1 => beaten 0(1) by 3.0.1
+outcome 2 => committed
+rows now => 3: (1, 12)
+
+open numbers 0 2 4294967294 / /
+submit 0 #1 0 1 @9 @9 => ticket 1.0.0 of 0
+submit 0 #1 0 1 @1 @10 => ticket 1.0.1 of 0
+seal => 1 with 2 in 69 bytes, kept
+arrive 1 #1 #1 #0 #1 0 1 @1 @20 => Ok(New)
+publish 2 => Published { epoch: 1, commits: 2, aborts: 1 }
+outcome 0 => committed
+outcome 1 => beaten 0(1) by 1.1.0
+rows now => 1: (1, 20) (9, 9)
+
+open numbers 0 1 4294967294 / /
+submit 0 #1 0 1 @1 @1 => ticket 1.0.0 of 0
+submit 0 #2 0 1 @1 @2 0 1 @2 @2 => ticket 1.0.1 of 0
+submit 0 #1 0 1 @2 @3 => ticket 1.0.2 of 0
+seal => 1 with 3 in 117 bytes, kept
+publish 4 => Published { epoch: 1, commits: 1, aborts: 2 }
+outcome 0 => committed
+outcome 1 => beaten 0(1) by 1.0.0
+outcome 2 => beaten 0(2) by 1.0.1
+rows now => 1: (1, 1)";
+
+/// The second of three regions. A batch that comes twice counts once.
+const THREE: &str = "\
+open numbers 1 3 4294967294 / /
+arrive 0 #1 #0 => Ok(New)
+arrive 2 #1 #0 => Ok(New)
+arrive 2 #1 #0 => Ok(Known)
+round => Waiting { epoch: 1, have: 2 }
+seal => 1 with 0 in 13 bytes, kept
+round => 1 after 0: 1.0/0 1.1/0 1.2/0
+publish 4 => Published { epoch: 1, commits: 0, aborts: 0 }";
+
 #[test]
 fn regions_take_their_turns(rt: HostRuntime) -> Result<(), Fail> {
     play(rt.alloc(), ALONE)?;
-    play(rt.alloc(), TWO)
+    play(rt.alloc(), TWO)?;
+    play(rt.alloc(), WINNERS)?;
+    play(rt.alloc(), THREE)
 }
