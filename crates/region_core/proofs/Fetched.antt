@@ -1,8 +1,11 @@
 -- Whether bytes spell a batch of the log, and what is replied by that.
 use Rattle.std.proofs.Common.{◌≡◌, ◌≢◌, ℕ, zero, suc, ◌+◌, ◌-◌, ◌<◌, ◌≤◌, Bool, true, false, cond, Option, None, Some, List, [], ◌∷◌, ◌++◌, length, refl, sym, ap, ◌∙◌, subst, arith, nat_eq}
-use Rattle.std.specs.Prelude.{IfSome, is_some, is_none, slice_index_or}
+use Rattle.std.specs.Prelude.{IfSome, is_some, not, slice_index_or}
+use Rattle.std.specs.Option.{option_copied}
+use denote.Ref.{Bor}
 use Rattle.std.specs.Cmp.Lexicographic.{pointwise, same_text, other_text}
 use Rattle.std.specs.List.{slice_get}
+use Rattle.geo_base.specs.declared.limits.TheConstants.{MAX_REGIONS}
 use Rattle.geo_io.specs.Told.{Lists, list_of}
 use Rattle.geo_schema.specs.Schemas.{Tables, IsSchema}
 use Rattle.write_set.specs.declared.batch.Batch.{Batch}
@@ -15,9 +18,9 @@ use Rattle.own_log.specs.Logs.{IsEntry, SpellsLog, AreOfLog}
 use Rattle.own_log.specs.laws.Logs.{of_log_by_place, spelled_by_place}
 use Rattle.region_core.specs.declared.fault.FetchFault.{FetchFault}
 use Rattle.region_core.specs.declared.fault.FetchFault.TheVariants as of_fetch
-use Rattle.region_core.specs.Region.{Standing, batch_for, own_batch}
+use Rattle.region_core.specs.Region.{Standing, RegionValue, batch_for, own_batch}
 use Rattle.region_core.specs.Refusals.{fetch_refusal}
-use Rattle.region_core.specs.Lawful.{IsStanding}
+use Rattle.region_core.specs.Lawful.{IsStanding, IsRegion}
 use Rattle.region_core.specs.Calls.{AreItsKeepers, Replies, RefusesReply}
 use Rattle.region_core.specs.inner.Fetching.{Compares}
 
@@ -111,3 +114,58 @@ module _ (s : Standing) (h : IsStanding s) where
       by : (o : Option Lists) → AreItsKeepers s o → IfSome o (λ all. bytes ≡ slice_index_or (list_of all s.number) (epoch - 1) []) → o ≡ None
       by None k e = refl
       by (Some all) k e = absurd (other (subst (λ (l : List ℕ). SpellsBatch s.tables s.regions l batch) (sym e) (entry_spells all epoch batch k (has_batch epoch batch own))))
+
+-- ---- what the calls show of it
+
+-- a loan of it that is there
+lent : {X : Type 0} → (o : Option (Bor X)) (missing : Bool) → is_some o ≡ not missing → missing ≡ false → (x : X) × (option_copied o ≡ Some x)
+lent None missing is there = absurd (none (ap not (sym there)) is)
+  where
+    none : true ≡ not missing → false ≡ not missing → ⊥
+    none given denied = let same : true ≡ false = given ∙ sym denied in cc
+lent (Some x) missing is there = (x.now, refl)
+
+module _ (old value : RegionValue) (h : IsRegion old) (view : old ≡ value) (up : old.standing.up ≡ true) (told : Option Lists) (epoch : ℕ)
+    (keepers : value.standing.up ≡ true → AreItsKeepers value.standing told) (shown : Option (Bor Batch)) (logged : option_copied shown ≡ own_batch value.standing epoch) where
+  own_keepers : AreItsKeepers old.standing told
+  own_keepers = subst (λ (r : RegionValue). AreItsKeepers r.standing told) (sym view) (keepers (ap (λ (r : RegionValue). r.standing.up) (sym view) ∙ up))
+
+  own_is : own_batch old.standing epoch ≡ option_copied shown
+  own_is = ap (λ (r : RegionValue). own_batch r.standing epoch) view ∙ sym logged
+
+  -- the keepers' list has the entry that is read
+  pub entry_there : (missing : Bool) → is_some shown ≡ not missing → missing ≡ false → IfSome told (λ all. epoch ≤ length (list_of all old.standing.number))
+  entry_there missing is there =
+      let (batch, has) = lent shown missing is there in
+      has_entry old.standing h.stands told epoch batch own_keepers (has_batch old.standing h.stands epoch batch (own_is ∙ has))
+
+  module _ (kept : Bor Batch) (got : shown ≡ Some kept) where
+    own_got : own_batch old.standing epoch ≡ Some kept.now
+    own_got = own_is ∙ ap option_copied got
+
+    -- the batch fits the tables
+    pub kept_fits : FitsRegions value.standing.tables value.standing.regions kept.now
+    kept_fits =
+        subst (λ (r : RegionValue). FitsRegions r.standing.tables r.standing.regions kept.now) view
+        (has_batch old.standing h.stands epoch kept.now own_got).fits
+
+    -- bytes that don't spell it are never those of keepers that tell
+    pub other_bytes : (read bytes : List ℕ) (equal : Bool) → read ≡ bytes → Compares value.standing read kept.now equal → equal ≡ false →
+        IfSome told (λ all. bytes ≡ slice_index_or (list_of all old.standing.number) (epoch - 1) []) → RefusesReply epoch value.standing told (of_fetch.BadLog epoch)
+    other_bytes read bytes equal same compares differ is =
+        subst (λ (r : RegionValue). RefusesReply epoch r.standing told (of_fetch.BadLog epoch)) view
+        (bad_log old.standing h.stands told epoch bytes kept.now up own_got own_keepers
+        (subst (λ (r : RegionValue). ¬ (SpellsBatch r.standing.tables r.standing.regions bytes kept.now)) (sym view)
+        (subst (λ (l : List ℕ). ¬ (SpellsBatch value.standing.tables value.standing.regions l kept.now)) same (subst (Compares value.standing read kept.now) differ compares))) is)
+
+-- the same, by the bytes that the calls show
+pub compared_by : (old value : RegionValue) (bytes shown again kept_shown kept : List ℕ) (read batch : Batch) (equal : Bool) → IsRegion old → old ≡ value →
+    (old.standing.regions ≤ MAX_REGIONS → FitsRegions old.standing.tables old.standing.regions read) → FitsRegions value.standing.tables value.standing.regions batch →
+    IsSpelling old.standing.tables read bytes → ((other : Batch) → SpellsBatch old.standing.tables old.standing.regions bytes other → read ≡ other) →
+    shown ≡ again → again ≡ batch_spelling Ggb2 old.standing.tables read → kept_shown ≡ kept → kept ≡ batch_spelling Ggb2 old.standing.tables batch →
+    equal ≡ pointwise nat_eq shown kept_shown → Compares value.standing bytes batch equal
+compared_by old value bytes shown again kept_shown kept read batch equal h view fits_read fits spelled only shown_is again_is kept_shown_is kept_is test =
+    subst (λ (r : RegionValue). Compares r.standing bytes batch equal) view
+    (compared old.standing h.stands.schema bytes shown kept_shown read batch equal (fits_read h.stands.few)
+    (subst (λ (r : RegionValue). FitsRegions r.standing.tables r.standing.regions batch) (sym view) fits) spelled only
+    (shown_is ∙ again_is) (kept_shown_is ∙ kept_is) test)

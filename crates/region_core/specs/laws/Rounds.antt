@@ -29,7 +29,7 @@ use Rattle.region_core.specs.laws.Standings.{is_up, passes, batch_there, IsNewIn
 
 -- ---- rounds
 
-few_held : (held : List Batch) (epoch regions : ℕ) → regions_held held epoch regions ≤ regions
+pub few_held : (held : List Batch) (epoch regions : ℕ) → regions_held held epoch regions ≤ regions
 few_held held epoch zero = omega arith
 few_held held epoch (suc region) = by (is_held held epoch region) (few_held held epoch region)
   where
