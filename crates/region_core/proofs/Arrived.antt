@@ -5,9 +5,9 @@ use Rattle.epoch_inbox.specs.declared.arrival.Arrival.{Arrival}
 use Rattle.epoch_inbox.specs.declared.arrival.Arrival.TheVariants as arrival
 use Rattle.epoch_inbox.specs.Inbox.{Holding, after_arrival, arrival_of, with_batch}
 use Rattle.index_store.specs.Store.{Stored}
-use Rattle.region_core.specs.Region.{Standing, RegionValue, with_standing}
+use Rattle.region_core.specs.Region.{RegionValue, with_standing}
 use Rattle.region_core.specs.Entries.{Arrive, after}
-use Rattle.region_core.specs.Lawful.{IsRegion, IsFromAnother, Accepts}
+use Rattle.region_core.specs.Lawful.{IsRegion, IsFromAnother}
 use Rattle.region_core.specs.inner.Fields.{AreFields}
 use Rattle.region_core.specs.laws.Regions.{makes_region}
 

@@ -18,7 +18,7 @@ are_batches region epoch (b ∷ bs) of lawful =
     (subst₂ (λ (r e : ℕ). IsBatch r e b) of.1 of.0 lawful.0, are_batches (region + 1) epoch bs of.2 lawful.1)
 
 -- those of a whole next epoch are one for each region
-pub next_are_batches : (r : Standing) → IsStanding r → length (next_batches r) ≡ r.regions → AreBatches 0 (next_epoch r) (next_batches r)
+next_are_batches : (r : Standing) → IsStanding r → length (next_batches r) ≡ r.regions → AreBatches 0 (next_epoch r) (next_batches r)
 next_are_batches r h whole = are_batches 0 (next_epoch r) (next_batches r) order.order lawful
   where
     order : AreInOrder (inbox_of r) (next_epoch r) (next_batches r)
