@@ -32,8 +32,7 @@ come_in size published inbox new index old value batch came fields view held pub
     by : (a : Arrival) → a ≡ arrival_of inbox.held published batch → new ≡ after_arrival inbox batch a → AreFields size new index (holding new.held old)
     by arrival.New here there = record {
       lawful = subst (λ (h : List Batch). IsRegion (holding h old)) (sym (ap (λ (i : Holding). i.held) there ∙ ap (λ (h : List Batch). with_batch h batch) held))
-          (makes_region old (with_standing (after (Arrive batch) old.standing) old) (Arrive batch) fields.lawful
-          (
+          (makes_region old (with_standing (after (Arrive batch) old.standing) old) (Arrive batch) fields.lawful (
             up,
             subst (λ (r : RegionValue). IsFromAnother r.standing batch) (sym view) another,
             sym (here ∙ (λ i. arrival_of (held i) (same_published i) batch)),

@@ -126,7 +126,7 @@ whole_stays old new (entry.Arrive batch) region accepts is within whole =
     taken : next_epoch old.standing ≡ batch.epoch → ⊥
     taken same =
         let there : is_held old.standing.held batch.epoch batch.region ≡ true =
-            ap (λ (n : ℕ). is_held old.standing.held n batch.region) (sym same) ∙ all_held old.standing region.stands whole batch.region accepts.1.0.here in
+        ap (λ (n : ℕ). is_held old.standing.held n batch.region) (sym same) ∙ all_held old.standing region.stands whole batch.region accepts.1.0.here in
         absurd (differ (is_held old.standing.held batch.epoch batch.region) there fresh.free)
       where
         differ : (b : Bool) → b ≡ true → b ≡ false → ⊥
