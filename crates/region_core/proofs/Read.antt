@@ -1,65 +1,47 @@
 -- The rows of a snapshot are rows of the tables, where each image that is kept is.
-use Rattle.std.proofs.Common.{◌≡◌, ℕ, ◌≤◌, Bool, true, false, cond, Option, None, Some, unwrap_or, List, [], ◌∷◌, refl, sym, ap, ◌∙◌, subst}
-use Rattle.std.specs.List.{All, cons_option}
-use Rattle.std.specs.Option.{option_map}
-use Rattle.std.specs.Ordering.{is_eq}
-use Rattle.std.specs.declared.cmp.Ordering.TheVariants.{Less, Equal}
-use Rattle.std.proofs.lemmas.Cmp.{tied_itself}
-use Rattle.std.proofs.lemmas.List.Elements.{All-nil, All-cons, All-weaker}
-use Rattle.geo_base.specs.declared.row_id.RowId.{RowId}
-use Rattle.geo_base.specs.declared.row_image.RowImage.{RowImage}
+use Rattle.std.proofs.Common.{◌≡◌, ℕ, Some, Contains, refl, sym, ◌∙◌, subst}
+use Rattle.std.specs.Cmp.{eq_by_cmp_equiv}
+use Rattle.std.specs.Map.{keys_of}
+use Rattle.std.proofs.lemmas.List.Elements.{All-weaker, All-contains_itself}
+use Rattle.std.proofs.lemmas.Map.Keys.{IsDistinct-from_sorted}
+use Rattle.std.proofs.lemmas.Map.Views.{lookup-from_Contains}
 use Rattle.geo_base.specs.Order.{row_cmp}
 use Rattle.geo_base.specs.laws.Orders.{row_cmp_total}
 use Rattle.geo_schema.specs.Schemas.{Tables}
-use Rattle.row_source.specs.Sources.{Fits}
-use Rattle.page_map.specs.Pairs.{IsRising, found_at}
-use Rattle.page_map.specs.laws.Orders.{over_equal, found_nowhere}
+use Rattle.row_source.specs.Sources.{AreRowsOf, Entry, Fits}
+use Rattle.write_set.specs.Overlay.{image_in}
+use Rattle.write_set.specs.Sets.{Rises}
 use Rattle.index_store.specs.Store.{Stored, IsStoreOf, pairs_of}
-use Rattle.snap_view.specs.Snapshots.{Held, HoldsIndexes, images_of}
+use Rattle.snap_view.specs.Snapshots.{Held, images_of}
 use Rattle.snap_view.specs.laws.Histories.{holds_indexes}
-use Rattle.version_store.specs.Chains.{Chain, image_at}
-use Rattle.version_store.specs.History.{Kept, chain_of}
-use Rattle.version_store.specs.Listing.{rows_at}
+use Rattle.version_store.specs.History.{Kept, IsKept, chain_of}
+use Rattle.version_store.specs.Listing.{table_at}
 use Rattle.version_store.specs.laws.Keeping.{read_is_version}
-use Rattle.version_store.specs.laws.Listing.{listed_rises}
+use Rattle.version_store.specs.laws.Listing.{listed_is_read, listed_rises}
 use Rattle.epoch_inbox.specs.Inbox.{Holding}
 use Rattle.region_core.specs.Region.{RegionValue}
-use Rattle.region_core.specs.Lawful.{IsRegion}
+use Rattle.region_core.specs.Lawful.{ImagesFit, IsRegion}
 use Rattle.region_core.specs.Calls.{IsOfEpoch}
 use Rattle.region_core.specs.inner.Fields.{AreFields}
 
-row_itself : (row : RowId) → row_cmp row row ≡ Equal
-row_itself row = tied_itself row_cmp_total row
-
--- what is read of the rows behind one is read of all of them
-read_behind : (epoch : ℕ) (pair : RowId × Chain) (rest : List (RowId × Chain)) (row : RowId) (image : RowImage) → All (λ later. row_cmp pair.0 later.0 ≡ Less) rest →
-    image_at (unwrap_or (found_at row_cmp row rest) []) epoch ≡ Some image → image_at (unwrap_or (found_at row_cmp row (pair ∷ rest)) []) epoch ≡ Some image
-read_behind epoch pair rest row image above read = by (is_eq (row_cmp pair.0 row)) refl
+rows_fit : (tables : Tables) (kept : Kept) (epoch : ℕ) → IsKept kept → ImagesFit tables kept → AreRowsOf tables (table_at kept epoch)
+rows_fit tables kept epoch order fit = record {
+  rising = rises;
+  fit =
+      All-weaker (Contains (table_at kept epoch)) (Fits tables)
+      (λ entry among. of_version entry
+      (lookup-from_Contains (eq_by_cmp_equiv row_cmp_total) entry.0 entry.1 (table_at kept epoch) (IsDistinct-from_sorted row_cmp (keys_of (table_at kept epoch)) rises) among))
+      (table_at kept epoch) (All-contains_itself (table_at kept epoch));
+}
   where
-    equal : is_eq (row_cmp pair.0 row) ≡ true → row_cmp pair.0 row ≡ Equal
-    equal is = grind arith
+    rises : Rises (table_at kept epoch)
+    rises = listed_rises epoch kept.rows order.rising
 
-    none : row_cmp pair.0 row ≡ Equal → found_at row_cmp row rest ≡ None
-    none same =
-        found_nowhere row_cmp row rest
-        (All-weaker (λ later. row_cmp pair.0 later.0 ≡ Less) (λ later. is_eq (row_cmp later.0 row) ≡ false)
-        (λ later less. ap is_eq (over_equal row_cmp row_cmp_total row pair.0 later.0 same less)) rest above)
-
-    by : (b : Bool) → is_eq (row_cmp pair.0 row) ≡ b → image_at (unwrap_or (cond b (Some pair.1) (found_at row_cmp row rest)) []) epoch ≡ Some image
-    by true is = let lost : None ≡ Some image = ap (λ o. image_at (unwrap_or o []) epoch) (sym (none (equal is))) ∙ read in absurd (cc)
-    by false is = read
-
-fit_rows : (tables : Tables) (epoch : ℕ) (pairs : List (RowId × Chain)) → IsRising row_cmp pairs →
-    ((row : RowId) (image : RowImage) → image_at (unwrap_or (found_at row_cmp row pairs) []) epoch ≡ Some image → Fits tables (row, image)) → All (Fits tables) (rows_at epoch pairs)
-fit_rows tables epoch [] rising fits = All-nil (Fits tables)
-fit_rows tables epoch (pair ∷ rest) rising fits =
-    by (image_at pair.1 epoch) refl (fit_rows tables epoch rest rising.1 (λ row image read. fits row image (read_behind epoch pair rest row image rising.0 read)))
-  where
-    by : (image : Option RowImage) → image_at pair.1 epoch ≡ image → All (Fits tables) (rows_at epoch rest) → All (Fits tables) (cons_option (option_map (λ i. (pair.0, i)) image) (rows_at epoch rest))
-    by None is later = later
-    by (Some image) is later =
-        All-cons (Fits tables) (pair.0, image) (rows_at epoch rest)
-        (fits pair.0 image (ap (λ b. image_at (unwrap_or (cond b (Some pair.1) (found_at row_cmp pair.0 rest)) []) epoch) (ap is_eq (row_itself pair.0)) ∙ is)) later
+    -- what is looked up is the image of a version
+    of_version : (entry : Entry) → image_in (table_at kept epoch) entry.0 ≡ Some entry.1 → Fits tables entry
+    of_version entry found =
+        let (version, among, image) = read_is_version (chain_of kept entry.0) epoch entry.1 (sym (listed_is_read epoch kept.rows entry.0 order.rising) ∙ found) in
+        fit entry.0 version entry.1 among image
 
 -- a snapshot of forks of what the region keeps is one of the region's
 of_epoch : (r : RegionValue) (index : Stored) (epoch : ℕ) → IsRegion r → IsStoreOf r.standing.tables (images_of r.versions) index →
@@ -68,11 +50,7 @@ of_epoch r index epoch h follows = record {
   epoch = refl;
   versions = refl;
   indexes = holds_indexes r.standing.tables r.versions (pairs_of index) epoch h.kept follows.index;
-  rows = record {
-    rising = listed_rises epoch r.versions.rows h.kept.rising;
-    fit = fit_rows r.standing.tables epoch r.versions.rows h.kept.rising
-        (λ row image read. let (version, among, is) = read_is_version (chain_of r.versions row) epoch image read in h.fits row version image among is);
-  };
+  rows = rows_fit r.standing.tables r.versions epoch h.kept h.fits;
 }
 
 pub snapshot_of : (size : ℕ) (inbox : Holding) (index : Stored) (old value : RegionValue) (versions : Kept) (fork : Stored) (epoch : ℕ) (held : Held) →

@@ -1,10 +1,10 @@
 -- A seal: what it is refused for, the batch that it logs, and what the region is with it.
-use Rattle.std.proofs.Common.{◌≡◌, ℕ, zero, suc, ◌+◌, ◌-◌, ◌<◌, ◌≤◌, Bool, true, false, cond, Option, None, Some, Err, Bor, List, [], ◌∷◌, ◌++◌, length, refl, sym, ap, ◌∙◌, subst, arith, add-one}
-use Rattle.std.specs.Prelude.{nat_le, is_some, IfSome, IsSome, IsErrOf}
+use Rattle.std.proofs.Common.{◌≡◌, ℕ, ◌<◌, Bool, true, false, cond, Option, None, Some, Result, Ok, Err, Bor, Vec, Global, List, [], ◌∷◌, ◌++◌, length, refl, sym, ap, ◌∙◌, subst, arith, add-one, ◌⊎◌, inl, inr}
+use Rattle.std.specs.Prelude.{is_some, is_ok, IfSome, IsSome, IsErrOf}
 use Rattle.std.specs.Option.{option_copied}
 use Rattle.std.specs.List.{slice_get}
 use Rattle.std.proofs.lemmas.Bool.Decides.{nat_tests}
-use Rattle.geo_base.specs.declared.limits.TheConstants.{MAX_AHEAD}
+use Rattle.geo_base.specs.laws.Results.{not_done}
 use Rattle.geo_io.specs.Told.{Lists, list_of, Gains, MayGain, Moves}
 use Rattle.geo_io.specs.laws.Told.{entry_at_end}
 use Rattle.write_set.specs.declared.batch.Batch.{Batch}
@@ -21,8 +21,6 @@ use Rattle.own_log.specs.laws.Logs.{of_log_by_place, spelled_by_place, appended_
 use Rattle.epoch_inbox.specs.Inbox.{Holding, is_at, held_at, is_held, with_batch, without_batch}
 use Rattle.epoch_inbox.specs.laws.Held.{put_there}
 use Rattle.epoch_inbox.specs.laws.Rising.{dropped_gone}
-use Rattle.region_core.specs.declared.fault.SealFault.{SealFault}
-use Rattle.region_core.specs.declared.fault.SealFault.TheVariants as of_seal
 use Rattle.region_core.specs.declared.region.Region.TheInside.{Inside}
 use Rattle.region_core.specs.Region.{Standing, RegionValue, open_epoch, batch_for, inbox_of, with_standing}
 use Rattle.region_core.specs.Entries.{Seal, after, next_batch}
@@ -31,47 +29,9 @@ use Rattle.region_core.specs.Lawful.{IsStanding}
 use Rattle.region_core.specs.Calls.{AreItsKeepers}
 use Rattle.region_core.specs.inner.Fields.{AreFields}
 use Rattle.region_core.specs.inner.Sealing.{IsLogged, KeepsEntry}
-use Rattle.region_core.specs.laws.Standings.{CanSeal, can_seal, get_end, stands_after}
+use Rattle.region_core.specs.laws.Standings.{can_seal, get_end, stands_after}
 use Rattle.region_core.specs.laws.Regions.{makes_region}
 use Rattle.region_core.proofs.Insides.{holding, view_of, AreInside, seen_with}
-
--- ---- refusals
-
--- the tests of a seal, where the region is up
-abbrev up_refusal : Standing → Option SealFault
-up_refusal s = cond (nat_le s.last (open_epoch s)) (Some of_seal.LastEpoch) (cond (nat_le MAX_AHEAD (length s.log - s.published)) (Some of_seal.Ahead) None)
-
-pub seal_down : (s : Standing) → s.up ≡ false → seal_refusal s ≡ Some of_seal.Down
-seal_down s down = ap (λ (b : Bool). cond b (up_refusal s) (Some of_seal.Down)) down
-
-pub seal_last : (s : Standing) → s.up ≡ true → s.last ≤ open_epoch s → seal_refusal s ≡ Some of_seal.LastEpoch
-seal_last s up last =
-    ap (λ (b : Bool). cond b (up_refusal s) (Some of_seal.Down)) up
-    ∙ ap (λ (b : Bool). cond b (Some of_seal.LastEpoch) (cond (nat_le MAX_AHEAD (length s.log - s.published)) (Some of_seal.Ahead) None)) (within s.last (open_epoch s) last)
-  where
-    within : (m n : ℕ) → m ≤ n → nat_le m n ≡ true
-    within m n h = grind (arith, nat_tests)
-
--- what is told where the open epoch isn't the last one
-before_last : (s : Standing) → s.up ≡ true → open_epoch s < s.last → seal_refusal s ≡ cond (nat_le MAX_AHEAD (length s.log - s.published)) (Some of_seal.Ahead) None
-before_last s up before =
-    ap (λ (b : Bool). cond b (up_refusal s) (Some of_seal.Down)) up
-    ∙ ap (λ (b : Bool). cond b (Some of_seal.LastEpoch) (cond (nat_le MAX_AHEAD (length s.log - s.published)) (Some of_seal.Ahead) None)) (above s.last (open_epoch s) before)
-  where
-    above : (m n : ℕ) → n < m → nat_le m n ≡ false
-    above m n h = grind (arith, nat_tests)
-
-pub seal_ahead : (s : Standing) → s.up ≡ true → open_epoch s < s.last → s.published + MAX_AHEAD ≤ length s.log → seal_refusal s ≡ Some of_seal.Ahead
-seal_ahead s up before ahead = before_last s up before ∙ ap (λ (b : Bool). cond b (Some of_seal.Ahead) None) (far (length s.log) s.published ahead)
-  where
-    far : (m n : ℕ) → n + MAX_AHEAD ≤ m → nat_le MAX_AHEAD (m - n) ≡ true
-    far m n h = let apart : MAX_AHEAD ≤ m - n = omega (arith, h) in grind (arith, nat_tests)
-
-pub seal_goes : (s : Standing) → s.up ≡ true → open_epoch s < s.last → length s.log < s.published + MAX_AHEAD → seal_refusal s ≡ None
-seal_goes s up before near = before_last s up before ∙ ap (λ (b : Bool). cond b (Some of_seal.Ahead) None) (close (length s.log) s.published near)
-  where
-    close : (m n : ℕ) → m < n + MAX_AHEAD → nat_le MAX_AHEAD (m - n) ≡ false
-    close m n h = let near : m - n < MAX_AHEAD = omega (arith, h) in grind (arith, nat_tests)
 
 -- ---- the next batch
 
@@ -95,18 +55,30 @@ module _ (s : Standing) (h : IsStanding s) (goes : seal_refusal s ≡ None) wher
   pub next_let_go : without_batch (with_batch s.held (next_batch s)) (open_epoch s) s.number ≡ s.held
   next_let_go = dropped_gone (inbox_of s) (next_batch s) h.places next_not_held
 
-  -- the keepers' list with its spelling spells the log with it
-  pub next_keepers : (told now : Option Lists) → SpellsBatch s.tables s.regions (batch_spelling Ggb2 s.tables (next_batch s)) (next_batch s) → IfSome told (λ all. s.number < length all) →
-      Moves (Gains s.number (batch_spelling Ggb2 s.tables (next_batch s))) told now → AreItsKeepers s told → AreItsKeepers (after (Seal (next_batch s)) s) now
-  next_keepers None None spelled there gains keepers = tt
-  next_keepers None (Some y) spelled there gains keepers = absurd gains
-  next_keepers (Some x) None spelled there gains keepers = absurd gains
-  next_keepers (Some x) (Some y) spelled there gains keepers =
-      let bytes = batch_spelling Ggb2 s.tables (next_batch s) in
-      let all = (spelled_by_place s.tables s.regions s.number (list_of x s.number) s.log keepers).all in
-      let grown : list_of y s.number ≡ list_of x s.number ++ bytes ∷ [] = ap (λ (l : Lists). list_of l s.number) gains ∙ (entry_at_end x s.number bytes there).own in
-      subst (λ (l : List (List ℕ)). SpellsLog s.tables s.regions s.number l (s.log ++ next_batch s ∷ [])) (sym grown)
-      (appended_is_read s.tables s.regions s.number (list_of x s.number) s.log bytes (next_batch s) keepers (record { spelled = spelled; region = refl; epoch = omega (arith, all) }))
+-- the keepers' list with its spelling spells the log with it
+next_keepers : (s : Standing) (told now : Option Lists) → SpellsBatch s.tables s.regions (batch_spelling Ggb2 s.tables (next_batch s)) (next_batch s) → IfSome told (λ all. s.number < length all) →
+    Moves (Gains s.number (batch_spelling Ggb2 s.tables (next_batch s))) told now → AreItsKeepers s told → AreItsKeepers (after (Seal (next_batch s)) s) now
+next_keepers s None None spelled there gains keepers = tt
+next_keepers s None (Some y) spelled there gains keepers = absurd gains
+next_keepers s (Some x) None spelled there gains keepers = absurd gains
+next_keepers s (Some x) (Some y) spelled there gains keepers =
+    let bytes = batch_spelling Ggb2 s.tables (next_batch s) in
+    let all = (spelled_by_place s.tables s.regions s.number (list_of x s.number) s.log keepers).all in
+    let grown : list_of y s.number ≡ list_of x s.number ++ bytes ∷ [] = ap (λ (l : Lists). list_of l s.number) gains ∙ (entry_at_end x s.number bytes there).own in
+    subst (λ (l : List (List ℕ)). SpellsLog s.tables s.regions s.number l (s.log ++ next_batch s ∷ [])) (sym grown)
+    (appended_is_read s.tables s.regions s.number (list_of x s.number) s.log bytes (next_batch s) keepers (record { spelled = spelled; region = refl; epoch = omega (arith, all) }))
+
+-- so it is after a seal
+pub sealed_keepers : (old new : RegionValue) (told now : Option Lists) (bytes : List ℕ) (width : ℕ) → IsLogged old.standing bytes → new ≡ with_standing (after (Seal (next_batch old.standing)) old.standing) old →
+    old.standing.number < width → IfSome told (λ all. length all ≡ width) → Moves (Gains old.standing.number (batch_spelling Ggb2 old.standing.tables (next_batch old.standing))) told now →
+    AreItsKeepers old.standing told → AreItsKeepers new.standing now
+sealed_keepers old new told now bytes width logged is below counted gains keepers =
+    subst (λ (r : RegionValue). AreItsKeepers r.standing now) (sym is)
+    (next_keepers old.standing told now (subst (λ (l : List ℕ). SpellsBatch old.standing.tables old.standing.regions l (next_batch old.standing)) logged.bytes_are logged.spelled) (has_list told counted) gains keepers)
+  where
+    has_list : (o : Option Lists) → IfSome o (λ all. length all ≡ width) → IfSome o (λ all. old.standing.number < length all)
+    has_list None e = tt
+    has_list (Some all) e = omega (arith, below, e)
 
 -- what was put in is found
 pub found_put : (held : List Batch) (batch : Batch) → held_at (with_batch held batch) batch.epoch batch.region ≡ Some batch
@@ -119,6 +91,11 @@ found_put held batch = put_there held batch batch.epoch batch.region ∙ ap (λ 
 
 abbrev batch_with : ℕ → ℕ → List Candidate → Batch
 batch_with region epoch items = record { region = region; epoch = epoch; items = items }
+
+-- the next batch is held, and lent
+pub record IsLent (a : Inside) (r : RegionValue) (inbox : Holding) (got : Option (Bor Batch)) : Type 0 where
+  pub put : inbox ≡ holding a.inbox.regions (with_batch a.inbox.held (next_batch r.standing))
+  pub found : option_copied got ≡ Some (next_batch r.standing)
 
 module _ (a : Inside) (h : AreInside a) (r : RegionValue) (is : view_of a ≡ r) where
   -- the log has the same batches, and the inbox holds the same
@@ -144,6 +121,13 @@ module _ (a : Inside) (h : AreInside a) (r : RegionValue) (is : view_of a ≡ r)
     pub got_is : (inbox : Holding) (got : Option (Bor Batch)) → inbox ≡ holding a.inbox.regions (with_batch a.inbox.held (next_batch r.standing)) → option_copied got ≡ held_at inbox.held epoch a.no →
         option_copied got ≡ Some (next_batch r.standing)
     got_is inbox got put found = found ∙ (λ i. held_at (put i).held (of i) (is i).standing.number) ∙ found_put a.inbox.held (next_batch r.standing)
+
+    -- both, of the copy that was put in and lent again
+    pub lent : (copy : Batch) (items : List Candidate) (inbox : Holding) (got : Option (Bor Batch)) → items ≡ a.open_candidates.items → copy ≡ batch_with a.no epoch items →
+        inbox ≡ holding a.inbox.regions (with_batch a.inbox.held copy) → option_copied got ≡ held_at inbox.held epoch a.no → IsLent a r inbox got
+    lent copy items inbox got here copied put found =
+        let all = put_is inbox copy (made_is copy items here copied) put in
+        record { put = all; found = got_is inbox got all found }
 
     module _ (goes : seal_refusal r.standing ≡ None) where
       next_goes : seal_refusal (view_of a).standing ≡ None
@@ -227,3 +211,22 @@ now_is {X} got b x e copied = got_same (sym (ap option_copied e) ∙ copied)
   where
     got_same : Some b.now ≡ Some x → b.now ≡ x
     got_same f = cc
+
+-- ---- what calls leave
+
+pub same_items : {X : Type 0} (v w : Vec X Global) → v ≡ w → v.items ≡ w.items
+same_items {X} v w e = ap (λ (u : Vec X Global). u.items) e
+
+pub none_left : {X : Type 0} (v w : Vec X Global) → v ≡ w → w.items ≡ [] → v.items ≡ []
+none_left v w e none = same_items v w e ∙ none
+
+-- what went well added an item
+pub pushed_is : {A E X : Type 0} (result : Result A E) (done : A) (left before first : List X) (x : X) → result ≡ Ok done →
+    left ≡ cond (is_ok result) (before ++ x ∷ []) before → before ≡ first → left ≡ first ++ x ∷ []
+pushed_is (Ok a) done left before first x well is same = is ∙ ap (λ (l : List _). l ++ x ∷ []) same
+pushed_is (Err e) done left before first x well is same = absurd cc
+
+-- the keepers were asked, unless there was no memory
+pub was_told : {A E : Type 0} (x : A) (e : E) (P : Type 0) → IsErrOf (Ok x) e ⊎ P → P
+was_told x e P (inl is) = not_done x e is
+was_told x e P (inr told) = told

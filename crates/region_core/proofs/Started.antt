@@ -1,6 +1,6 @@
 -- A region that starts on a log: what it holds, and what it is then.
-use Rattle.std.proofs.Common.{◌≡◌, ℕ, zero, suc, ◌+◌, ◌<◌, ◌≤◌, Bool, true, false, cond, Option, None, Some, Result, Ok, Err, List, [], ◌∷◌, length, get_or, take, refl, sym, ap, ◌∙◌, subst, arith, ◌⊎◌, inl, inr}
-use Rattle.std.specs.Prelude.{IfSome, IsErrOf, OnOk, is_err}
+use Rattle.std.proofs.Common.{◌≡◌, ℕ, zero, suc, ◌+◌, ◌<◌, ◌≤◌, true, false, None, Some, Result, Ok, Err, List, [], ◌∷◌, length, get_or, take, refl, sym, ap, ◌∙◌, subst, arith}
+use Rattle.std.specs.Prelude.{OnOk, is_err}
 use Rattle.std.specs.List.Sorted.{IsStrictlySortedBy}
 use Rattle.std.specs.Ordering.{nat_cmp, ordering_then, match_ordering}
 use Rattle.std.specs.declared.cmp.Ordering.{Ordering}
@@ -10,16 +10,11 @@ use Rattle.std.proofs.lemmas.List.Elements.{All-nil}
 use Rattle.geo_base.specs.declared.limits.TheConstants.{MAX_REGIONS, LAST_EPOCH}
 use Rattle.geo_base.specs.declared.outcome.Outcome.{Outcome}
 use Rattle.geo_base.specs.declared.row_id.RowId.{RowId}
-use Rattle.geo_base.specs.Results.{Refuses}
-use Rattle.geo_base.specs.laws.Results.{fault_is, not_done}
-use Rattle.geo_io.specs.Told.{Lists, list_of}
 use Rattle.geo_schema.specs.Schemas.{Tables, IsSchema}
 use Rattle.write_set.specs.declared.batch.Batch.{Batch}
 use Rattle.write_set.specs.declared.candidate.Candidate.{Candidate}
 use Rattle.write_set.specs.BatchSizes.{batch_size}
-use Rattle.own_log.specs.declared.fault.LoadFault.{LoadFault}
-use Rattle.own_log.specs.declared.fault.LoadFault.TheVariants as load
-use Rattle.own_log.specs.Logs.{IsOfLog, AreOfLog, AreOfLogFrom, SpellsLog}
+use Rattle.own_log.specs.Logs.{IsOfLog, AreOfLog, AreOfLogFrom}
 use Rattle.epoch_inbox.specs.Inbox.{Holding, with_batch}
 use Rattle.version_store.specs.Chains.{image_at}
 use Rattle.version_store.specs.History.{Kept, chain_of}
@@ -28,9 +23,8 @@ use Rattle.index_store.specs.Store.{Stored, IsStoreOf}
 use Rattle.snap_view.specs.Snapshots.{images_of}
 use Rattle.region_core.specs.declared.region.Region.TheInside.{Inside}
 use Rattle.region_core.specs.Region.{Standing, RegionValue, no_versions, unpublished}
-use Rattle.region_core.specs.Entries.{Crash, after, down_with, crashed, started, opened}
+use Rattle.region_core.specs.Entries.{Crash, after, down_with, opened}
 use Rattle.region_core.specs.Lawful.{IsOpenIn, IsHeldIn, IsStanding, IsRegion}
-use Rattle.region_core.specs.Calls.{AreItsKeepers, Starts}
 use Rattle.region_core.specs.inner.Fields.{seen, AreFields}
 use Rattle.region_core.specs.laws.Standings.{started_stands}
 use Rattle.region_core.specs.laws.Regions.{makes_region, nothing_published}
@@ -93,9 +87,6 @@ went_well (Ok x) well h = h
 went_well (Err e) well h = absurd (cc)
 
 -- ---- a region that was down, on a log
-
-pub crashed_down : (s : Standing) → s.up ≡ false → crashed s ≡ s
-crashed_down s down = ap (λ (b : Bool). cond b (down_with s.number s.regions s.tables s.last (s.life + 1) s.log) s) down
 
 -- the same region, up and with this log, whose batches it holds
 abbrev begun : List Batch → RegionValue → RegionValue
@@ -190,38 +181,3 @@ module _ (number regions : ℕ) (tables copy : Tables) (last : ℕ) (log : List 
     inbox_regions = ap (λ (k : Holding). k.regions) holds;
     follows = begins copy (images_of versions) (λ row epoch within. ap (λ (k : Kept). image_at (chain_of k row) epoch) none_kept);
   }
-
--- ---- what a start says
-
-module _ (old new : RegionValue) (log : List Batch) (is : new ≡ unpublished (after (Crash (Some log)) old.standing)) where
-  pub log_is : new.standing.log ≡ log
-  log_is = ap (λ (r : RegionValue). r.standing.log) is
-
-  pub starts_on : (told : Option Lists) → old.standing.up ≡ false → IfSome told (λ all. SpellsLog old.standing.tables old.standing.regions old.standing.number (list_of all old.standing.number) log) → Starts told old new
-  starts_on told down spelled = record {
-    state = is ∙ ap (λ (l : List Batch). unpublished (after (Crash (Some l)) old.standing)) (sym log_is);
-    spelled = subst (λ (r : RegionValue). AreItsKeepers r.standing told) (sym is) (subst (λ (s : Standing). AreItsKeepers (started log s) told) (sym (crashed_down old.standing down)) spelled);
-  }
-
--- ---- faults that are handed on
-
-pub bad_on : (A B : Type 0) (e f : LoadFault) → IsErrOf {T = B} (Err e) f → IsErrOf {T = A} (Err e) f
-bad_on A B e f is = ap Err (fault_is {A = B} e f is)
-
--- where the keepers tell, a fault is due for their entries
-abbrev pub IsDueFor : {X : Type 0} → Option Lists → (Lists → LoadFault → Type 0) → Result X LoadFault → Type 0
-IsDueFor told IsBad result = IfSome told (λ all. IsErrOf result load.LogFault ⊎ Refuses load.NoMemory result (IsBad all))
-
-pub refused_on : (A B : Type 0) (told : Option Lists) (IsBad : Lists → LoadFault → Type 0) (e : LoadFault) → IsDueFor {X = A} told IsBad (Err e) → IsDueFor {X = B} told IsBad (Err e)
-refused_on A B None IsBad e due = tt
-refused_on A B (Some all) IsBad e (inl is) = inl (ap Err (fault_is {A = A} e load.LogFault is))
-refused_on A B (Some all) IsBad e (inr other) = inr other
-
-pub refused_none : {A B : Type 0} (told : Option Lists) (IsBad : Lists → LoadFault → Type 0) (x : A) (y : B) → IsDueFor told IsBad (Ok x) → IsDueFor told IsBad (Ok y)
-refused_none None IsBad x y due = tt
-refused_none (Some all) IsBad x y (inl is) = not_done x load.LogFault is
-refused_none (Some all) IsBad x y (inr other) = inr other
-
-pub refused_memory : (B : Type 0) (told : Option Lists) (IsBad : Lists → LoadFault → Type 0) (e : LoadFault) → e ≡ load.NoMemory → IsDueFor {X = B} told IsBad (Err e)
-refused_memory B None IsBad e is = tt
-refused_memory B (Some all) IsBad e is = inr (λ f bad. inl is)

@@ -55,11 +55,9 @@ impl Region {
         requires upto { epoch ≤ self.now.versions.applied }
         ensures { IfOk result (IsOfEpoch self.now epoch) }
     {
-        Ok(Snapshot::new(
-            self.versions.fork()?,
-            self.index.fork()?,
-            epoch,
-        ))
+        let versions = self.versions.fork()?;
+        let index = self.index.fork()?;
+        Ok(Snapshot::new(versions, index, epoch))
     }
 
     /// What a round of the next epoch is made of, where the region holds the batches of all regions. Takes a copy of

@@ -94,6 +94,8 @@ impl Region {
         ensures width { L.width logs.new ≡ L.width logs.old }
         ensures cause { HasCauseOf LoadFault.LogFault (L.faults logs.old) (L.faults logs.new) result }
     {
+        // The call says that the tables are a schema's.
+        let _tables = schema.count();
         let schema_copy = match schema.copy(alloc) {
             Ok(copy) => copy,
             Err(_) => return Err(LoadFault::NoMemory),

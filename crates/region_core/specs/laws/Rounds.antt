@@ -1,5 +1,5 @@
 -- Laws: a region's round gives the outcomes by which it publishes, and these stay such through its life.
-use Rattle.std.proofs.Common.{◌≡◌, ℕ, zero, suc, ◌+◌, ◌<◌, ◌≤◌, Bool, true, false, cond, ◌==◌, Option, Some, None, List, [], ◌∷◌, length, map, refl, sym, ap, ◌∙◌, subst, arith, ◌⊎◌, inl, inr}
+use Rattle.std.proofs.Common.{◌≡◌, ℕ, zero, suc, ◌+◌, ◌≤◌, Bool, true, false, cond, ◌==◌, None, List, [], ◌∷◌, length, map, refl, sym, ap, ◌∙◌, subst, arith, ◌⊎◌, inl, inr}
 use Rattle.std.specs.Prelude.{nat_lt, is_some}
 use Rattle.std.specs.Ordering.{match_ordering}
 use Rattle.std.specs.declared.cmp.Ordering.{Ordering}
@@ -8,28 +8,27 @@ use Rattle.std.proofs.lemmas.Bool.{eqb-true}
 use Rattle.std.proofs.lemmas.Bool.Decides.{nat_tests}
 use Rattle.geo_base.specs.declared.row_id.RowId.{RowId}
 use Rattle.write_set.specs.declared.batch.Batch.{Batch}
-use Rattle.write_set.specs.Journal.{Placed, candidates_of}
+use Rattle.write_set.specs.Journal.{candidates_of}
 use Rattle.write_set.specs.Merge.{verdict_of}
-use Rattle.epoch_inbox.specs.Inbox.{Holding, IsWhole, place_of, place_cmp, held_of, held_at, is_held, regions_held, with_batch}
+use Rattle.epoch_inbox.specs.Inbox.{IsWhole, place_of, place_cmp, held_of, is_held, regions_held, with_batch}
 use Rattle.epoch_inbox.specs.laws.Held.{exact_places, filter_no, held_counted}
 use Rattle.merge_round.specs.Gathers.{Decided}
-use Rattle.merge_round.specs.Rounds.{Round, outcomes_of}
-use Rattle.snap_view.specs.Snapshots.{Held}
+use Rattle.snap_view.specs.Snapshots.{Held, last_held}
 use Rattle.version_store.specs.Chains.{newest_epoch}
-use Rattle.version_store.specs.History.{chain_of}
-use Rattle.region_core.specs.Region.{Standing, RegionValue, open_epoch, next_epoch, inbox_of, batch_for, next_batches, next_candidates, last_in, with_standing}
+use Rattle.version_store.specs.History.{Kept, chain_of}
+use Rattle.region_core.specs.Region.{Standing, RegionValue, open_epoch, next_epoch, inbox_of, next_batches, next_candidates, last_in, with_standing}
 use Rattle.region_core.specs.Entries as entry
 use Rattle.region_core.specs.Entries.{Entry, next_batch, after}
 use Rattle.region_core.specs.Publishing.{outcomes_by, next_outcomes, Becomes}
 use Rattle.region_core.specs.Refusals.{round_refusal}
 use Rattle.region_core.specs.Lawful.{IsStanding, IsRegion, Accepts}
-use Rattle.region_core.specs.Calls.{IsNextRound, AreOutcomesFor}
-use Rattle.region_core.specs.Rounds.{IsRoundOver, decided_by, IsInLife, IsInEpoch, KeepsNext, RoundsGiveOutcomes, WholeEpochsStay, OutcomesStay}
+use Rattle.region_core.specs.Calls.{IsOfEpoch, AreOutcomesFor}
+use Rattle.region_core.specs.Rounds.{IsInEpoch, KeepsNext, RoundsGiveOutcomes, WholeEpochsStay, OutcomesStay}
 use Rattle.region_core.specs.laws.Standings.{is_up, passes, batch_there, IsNewIn, is_new}
 
 -- ---- rounds
 
-few_held : (held : List Batch) (epoch regions : ℕ) → regions_held held epoch regions ≤ regions
+pub few_held : (held : List Batch) (epoch regions : ℕ) → regions_held held epoch regions ≤ regions
 few_held held epoch zero = omega arith
 few_held held epoch (suc region) = by (is_held held epoch region) (few_held held epoch region)
   where
@@ -38,7 +37,7 @@ few_held held epoch (suc region) = by (is_held held epoch region) (few_held held
     by false rest = omega (arith, rest)
 
 -- where a round isn't refused all batches of the next epoch are held
-pub whole_next : (r : Standing) → IsStanding r → round_refusal r ≡ None → length (next_batches r) ≡ r.regions
+whole_next : (r : Standing) → IsStanding r → round_refusal r ≡ None → length (next_batches r) ≡ r.regions
 whole_next r h none =
     let up = is_up _ r.up _ none in
     let enough = passes (nat_lt (length (next_batches r)) r.regions) _ _ up.1 in
@@ -48,6 +47,10 @@ whole_next r h none =
   where
     upto : (n regions : ℕ) → nat_lt n regions ≡ false → regions ≤ n
     upto n regions e = grind (arith, nat_tests)
+
+-- the last change of a row that the snapshot of the published epoch holds is the one that the region holds
+last_same : (r : RegionValue) (before : Held) (row : RowId) → IsOfEpoch r r.standing.published before → last_held before row ≡ last_in r row
+last_same r before row is = ap (λ (kept : Kept). newest_epoch (chain_of kept row)) is.versions
 
 pub rounds_give : RoundsGiveOutcomes
 rounds_give r of batches before round region none is over = λ up. inr (epoch_is, whole_next r.standing region.stands none, λ i. map (verdict_of (last_is i) (epoch_is i) (all_is i)) (all_is i))
@@ -59,7 +62,7 @@ rounds_give r of batches before round region none is over = λ up. inr (epoch_is
     all_is = over.all ∙ ap candidates_of is.held
 
     last_is : round.last ≡ last_in r
-    last_is = over.last ∙ (λ i row. newest_epoch (chain_of (is.snapshot.versions i) row))
+    last_is = over.last ∙ (λ i row. last_same r before row is.snapshot i)
 
 -- ---- a whole epoch
 
@@ -123,7 +126,7 @@ whole_stays old new (entry.Arrive batch) region accepts is within whole =
     taken : next_epoch old.standing ≡ batch.epoch → ⊥
     taken same =
         let there : is_held old.standing.held batch.epoch batch.region ≡ true =
-            ap (λ (n : ℕ). is_held old.standing.held n batch.region) (sym same) ∙ all_held old.standing region.stands whole batch.region accepts.1.0.here in
+        ap (λ (n : ℕ). is_held old.standing.held n batch.region) (sym same) ∙ all_held old.standing region.stands whole batch.region accepts.1.0.here in
         absurd (differ (is_held old.standing.held batch.epoch batch.region) there fresh.free)
       where
         differ : (b : Bool) → b ≡ true → b ≡ false → ⊥

@@ -1,4 +1,4 @@
-use Rattle.std.proofs.Common.{◌<◌, sym, ap, ◌∙◌, arith}
+use Rattle.std.proofs.Common.{ap, arith}
 use Rattle.write_set.specs.declared.batch.Batch.{Batch}
 use Rattle.epoch_inbox.specs.Inbox.{Holding}
 use Rattle.region_core.proofs.Insides.{holding}

@@ -1,4 +1,4 @@
-use Rattle.std.proofs.Common.{ℕ, ◌≤◌, IfOk, IfSome, IsErrOf, ◌⊎◌, ap, subst, arith}
+use Rattle.std.proofs.Common.{ℕ, IfOk, IfSome, IsErrOf, ◌⊎◌, ap, subst, arith}
 use Rattle.geo_base.specs.Results.{Refuses}
 use Rattle.geo_io.specs.Told.{list_of}
 use Rattle.own_log.specs.declared.fault.EntryFault.{EntryFault}

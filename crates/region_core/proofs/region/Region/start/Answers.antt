@@ -1,6 +1,4 @@
-use Rattle.std.proofs.Common.{◌≡◌, sym, ap, ◌∙◌, subst}
-use Rattle.epoch_inbox.specs.Inbox.{Holding}
-use Rattle.region_core.specs.Region.{RegionValue}
+use Rattle.std.proofs.Common.{◌≡◌, sym, ◌∙◌}
 use Rattle.region_core.proofs.Insides.{holding}
 use Rattle.region_core.proofs.Started.{may_hold, now_holds, went_well, log_inside, started_is, started_inside}
 use Rattle.region_core.proofs.region.Region.start.Goals as goal
