@@ -1,0 +1,11 @@
+pub mod Region
+pub mod Entries
+pub mod Publishing
+pub mod Refusals
+pub mod Lawful
+pub mod Calls
+pub mod Journals
+pub mod Rounds
+pub mod Ports
+pub mod inner
+pub mod laws
