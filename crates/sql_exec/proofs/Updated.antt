@@ -198,12 +198,12 @@ same_row : (tables : Tables) (update : BoundUpdate) (base : Table) (e : Entry) �
 unfolding update_row name_in
 same_row tables update base e named = ap (λ (n : RowId). update_one tables update base (n, e.1)) (sym named.name)
 
-pub by_plan : (tables : Tables) (update : BoundUpdate) (base : Table) (plan : Plan) (rows : Table) (handed : Rows) → AreRowsOf tables rows →
-    LeavesOut tables (update.table ∷ []) plan rows (λ cells. kept cells update.tests ≡ Ok false) → handed ≡ images (filter (reaches tables update.table plan.first) rows) →
+pub by_plan : (tables : Tables) (update : BoundUpdate) (base : Table) (plan : Plan) (rows : Table) (handed found : Rows) → AreRowsOf tables rows →
+    LeavesOut tables (update.table ∷ []) plan rows (λ cells. kept cells update.tests ≡ Ok false) → handed ≡ found → found ≡ images (filter (reaches tables update.table plan.first) rows) →
     updates_behind update.tests (update_row tables update base) [] handed ≡ updates_of update.tests (update_one tables update base) (of_table update.table rows)
-by_plan tables update base plan rows handed are leaves is =
+by_plan tables update base plan rows handed found are leaves same is =
     let reached : Entry → Bool = reaches tables update.table plan.first in
-    ap (updates_behind update.tests (update_row tables update base) []) is
+    ap (updates_behind update.tests (update_row tables update base) []) (same ∙ is)
     ∙ by_cells update.tests (update_one tables update base) (update_row tables update base) [] (filter reached rows)
     (All-weaker (IsNamed tables update.table) (λ e. update_row tables update base e.1 ≡ update_one tables update base e) (λ e named. same_row tables update base e named) (filter reached rows)
     (all_named tables update.table reached rows (λ e there. of_its_table tables update.table plan.first e there) are.fit))

@@ -100,10 +100,11 @@ HasFittingRow tables (row, Remove) = (image : RowImage) × Fits tables (row, ima
 HasFittingRow tables (row, Touch) = (image : RowImage) × Fits tables (row, image)
 
 -- a transaction's net over its base, as its statements may leave it: laid over the base it gives rows of the schema; each row
--- that it has fits the schema, also one that it removes or touches; and what it touches is in the base
+-- that it has fits the schema, also one that it removes or touches; and what it touches or removes is in the base
 pub record IsOwnNet (tables : Tables) (base : Table) (own : List ChangeOfRow) : Type 0 where
   pub base_rising : Rises base
   pub rising : Rises own
   pub rows : AreRowsOf tables (overlay base own)
   pub named : All (HasFittingRow tables) own
   pub touched : (row : RowId) → change_in own row ≡ Some Touch → IsSome (image_in base row)
+  pub removed : (row : RowId) → change_in own row ≡ Some Remove → IsSome (image_in base row)

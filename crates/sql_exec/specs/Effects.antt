@@ -1,6 +1,6 @@
 -- What a statement that writes does: the changes that it makes to the rows that there are, which are the base with the
 -- transaction's own net laid over it, and the net after them.
-use Rattle.std.specs.Prelude.{◌≡◌, ℕ, ◌+◌, Bool, not, ◌&&◌, ◌||◌, nat_eq, if◌then◌else◌, Option, Some, None, Result, Ok, Err, List, [], ◌∷◌, ◌++◌, filter, length, map, position, slice_set, unwrap_or}
+use Rattle.std.specs.Prelude.{◌≡◌, ◌⊎◌, ⊤, ℕ, ◌+◌, Bool, true, not, ◌&&◌, ◌||◌, nat_eq, if◌then◌else◌, Option, Some, None, Result, Ok, Err, List, [], ◌∷◌, ◌++◌, Contains, filter, length, map, position, slice_set, unwrap_or}
 use Rattle.std.specs.List.{list_any, range_with_len}
 use Rattle.std.specs.Option.{is_some, option_map, option_or}
 use Rattle.geo_base.specs.Cells.{is_null}
@@ -32,7 +32,7 @@ use Rattle.write_set.specs.declared.change.Change.{Change}
 use Rattle.write_set.specs.declared.change.Change.TheVariants.{Put, Remove, Touch}
 use Rattle.write_set.specs.declared.row_change.RowChange.{RowChange}
 use Rattle.write_set.specs.declared.set_fault.SetFault.TheVariants as limit
-use Rattle.write_set.specs.Net.{HasNetCause, HasTouchesOf, IsNet, IsWithinLimits}
+use Rattle.write_set.specs.Net.{HasNetCause, HasTouchesOf, IsNet, IsWithinLimits, change_in}
 use Rattle.write_set.specs.Overlay.{Table, image_in, overlay}
 use Rattle.write_set.specs.Sets.{ChangeOfRow, has_row}
 
@@ -152,7 +152,14 @@ lock_changes query base own =
     answer_of query (overlay base own) >>= λ lines.
     kept_entries query.tests (locked_table query.tables) base own >>= λ rows. Ok (lines, touches_of base own rows)
 
--- ---- the net
+-- ---- what a statement is refused for
+
+-- a fault of a statement by itself: a limit is that of the net after it, and want of memory says nothing of it
+abbrev pub IsOfStatement : ExecFault → Type 0
+IsOfStatement fault.TooManyRows = ⊥
+IsOfStatement fault.TooLarge = ⊥
+IsOfStatement fault.NoMemory = ⊥
+IsOfStatement _ = ⊤
 
 -- a statement is refused for its first fault, and where it has none, for the limit that the net after its changes breaks
 abbrev pub IsRefused : List ChangeOfRow → Result (List RowChange) ExecFault → ExecFault → Type 0
@@ -161,11 +168,19 @@ IsRefused own (Ok changes) fault.TooManyRows = HasNetCause own changes limit.Too
 IsRefused own (Ok changes) fault.TooLarge = HasNetCause own changes limit.TooLarge
 IsRefused own (Ok changes) _ = ⊥
 
--- the transaction's net after changes: no greater than it may be, and what it touches it has touched before, or a change says
--- that the snapshot has it
+-- ---- the net
+
+-- each removed row of the net is one that the net before it removes, or one that a change says to be in the snapshot
+abbrev pub HasRemovalsOf : List ChangeOfRow → List RowChange → List ChangeOfRow → Type 0
+HasRemovalsOf own changes net = (row : RowId) → change_in net row ≡ Some Remove →
+    (change_in own row ≡ Some Remove) ⊎ ((c : RowChange) × Contains changes c × (c.row ≡ row) × (c.before ≡ true))
+
+-- the transaction's net after changes: no greater than it may be, and what it touches or removes it has touched or removed
+-- before, or a change says that the snapshot has it
 pub record IsNetAfter (own : List ChangeOfRow) (changes : List RowChange) (net : List ChangeOfRow) : Type 0 where
   pub is_net : IsNet own changes net
   pub touches : HasTouchesOf own changes net
+  pub removals : HasRemovalsOf own changes net
   pub within : IsWithinLimits net
 
 -- What a statement that writes does as a whole: how many rows it changes, and the transaction's net after them. Two calls give

@@ -3,6 +3,7 @@ pub mod Fitting
 pub mod Inserting
 pub mod Naming
 pub mod Plain
+pub mod Reaching
 pub mod Removing
 pub mod Touching
 pub mod Updating

@@ -1,5 +1,5 @@
 //! Laws of statements that write, each the contract of a function that does nothing.
-ghost use Rattle.std.specs.Prelude.{◌≡◌, ◌≢◌, ◌↔◌, ℕ, List, [], All, Result, Ok, Err};
+ghost use Rattle.std.specs.Prelude.{◌≡◌, ◌≢◌, ◌↔◌, ℕ, List, [], All, IfErr, Result, Ok, Err};
 ghost use Rattle.geo_base.specs.declared.cell.Cell.{Cell};
 ghost use Rattle.geo_base.specs.declared.row_id.RowId.{RowId};
 ghost use Rattle.geo_base.specs.declared.row_image.RowImage.{RowImage};
@@ -18,7 +18,7 @@ ghost use Rattle.sql_bind.specs.Names.{column_types};
 ghost use Rattle.sql_bind.specs.Sound.{IsSoundInsert, IsSoundUpdate};
 ghost use Rattle.sql_exec.specs.Answers.{answer_of};
 ghost use Rattle.sql_exec.specs.Changes.{AreChangesOfRows, ArePutsOfNewRows, AreTouches, CanBeApplied, IsFaultFor, IsOwnNet, IsPut, IsSoundChange};
-ghost use Rattle.sql_exec.specs.Effects.{IsDone, IsLocked, IsRefused, delete_changes, fitting, insert_changes, lock_changes, locked_table, touches_in, update_changes};
+ghost use Rattle.sql_exec.specs.Effects.{IsDone, IsLocked, IsOfStatement, IsRefused, delete_changes, fitting, insert_changes, lock_changes, locked_table, touches_in, update_changes};
 ghost use Rattle.sql_expr.specs.Rows.{HasTypes};
 ghost use Rattle.write_set.specs.declared.change.Change.{Change};
 ghost use Rattle.write_set.specs.declared.change.Change.TheVariants.{Remove};
@@ -28,6 +28,7 @@ ghost use Rattle.write_set.specs.Overlay.{Table, overlay};
 ghost use Rattle.write_set.specs.Sets.{ChangeOfRow, Rises};
 
 use sql_bind::bound_values_are_of_their_columns_types;
+use sql_expr::want_of_memory_is_no_fault;
 
 /// A statement tests cells by the rule of rows. Cells of the columns' types, one for each column, fit exactly where
 /// they are a row of the table; and their fault names the column of the first that doesn't suit its column.
@@ -101,8 +102,28 @@ pub fn duplicates_are_of_the_table()
     bound_values_are_of_their_columns_types();
 }
 
-/// The changes of a statement may be made in the net that it was shown, without a question: no row is changed twice, a
-/// removal is of a row that the net or the base has, and a touch of one that the base has.
+/// What a statement or a query has for its fault is one of its own, whatever the rows and the net are: want of memory is no
+/// answer of the definitions, and a limit is that of the net after a statement. So want of memory is never what a statement
+/// is refused for.
+pub fn faults_are_of_statements()
+    ensures insert { (tables : Tables) (insert : BoundInsert) (base : Table) (own : List ChangeOfRow) →
+        IfErr (insert_changes tables insert base own) IsOfStatement }
+    ensures update { (tables : Tables) (update : BoundUpdate) (base : Table) (own : List ChangeOfRow) →
+        IfErr (update_changes tables update base own) IsOfStatement }
+    ensures delete { (delete : BoundDelete) (base : Table) (own : List ChangeOfRow) →
+        IfErr (delete_changes delete base own) IsOfStatement }
+    ensures lock { (query : BoundSelect) (base : Table) (own : List ChangeOfRow) →
+        IfErr (touches_in (lock_changes query base own)) IsOfStatement }
+    ensures answer { (query : BoundSelect) (rows : Table) → IfErr (answer_of query rows) IsOfStatement }
+    ensures refused { (own : List ChangeOfRow) (made : Result (List RowChange) ExecFault) (e : ExecFault) →
+        IfErr made IsOfStatement → IsRefused own made e → e ≢ fault.NoMemory }
+{
+    want_of_memory_is_no_fault();
+}
+
+/// The changes of a statement may be made in the net that it was shown: no row is changed twice, a removal is of a row that
+/// the net or the base has, and a touch of one that the base has. Asked is what the statement's own call asks: an INSERT or
+/// UPDATE is sound, and the rows are those of the schema; for a DELETE or a lock only that base and net rise.
 pub fn changes_can_be_applied()
     ensures insert { (tables : Tables) (insert : BoundInsert) (base : Table) (own : List ChangeOfRow) (changes : List RowChange) →
         IsSchema tables → IsSoundInsert tables insert → insert_changes tables insert base own ≡ Ok changes → CanBeApplied own changes }
@@ -118,7 +139,8 @@ pub fn changes_can_be_applied()
 }
 
 /// What a transaction's net is over its base when it begins it stays behind each statement that writes or locks: laid over
-/// the base it gives rows of the schema, each row that it has fits the schema, and what it touches is in the base.
+/// the base it gives rows of the schema, each row that it has fits the schema, and what it touches or removes is in the
+/// base. So of a row that the base lacks it has a put or nothing.
 pub fn own_nets_stay_own_nets()
     ensures begin { (tables : Tables) (base : Table) → AreRowsOf tables base → IsOwnNet tables base [] }
     ensures insert { (tables : Tables) (insert : BoundInsert) (base : Table) (own : List ChangeOfRow) (changed : ℕ) (net : List ChangeOfRow) →

@@ -34,8 +34,8 @@ pub use for_update::{Locked, lock};
 pub use inserting::insert;
 pub use laws::{
     changes_can_be_applied, deleted_rows_are_there, duplicates_are_of_the_table,
-    fitting_is_the_rule_of_rows, inserted_rows_fit, own_nets_stay_own_nets, rows_stay_rows,
-    touched_rows_are_there, updated_rows_fit,
+    faults_are_of_statements, fitting_is_the_rule_of_rows, inserted_rows_fit,
+    own_nets_stay_own_nets, rows_stay_rows, touched_rows_are_there, updated_rows_fit,
 };
 pub use lines::LineList;
 pub use netting::apply_changes;

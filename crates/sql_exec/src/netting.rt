@@ -26,7 +26,8 @@ fn make(own: &mut WriteSet, alloc: Global, changes: Vec<RowChange>) -> Result<()
 
 /// Makes the changes of a statement in the transaction's net `own`, in place, and answers how many rows it has changed,
 /// also those whose image stays the same. What [`crate::insert`], [`crate::update`], [`crate::delete`] and
-/// [`crate::lock`] answer may be made in the net that they were shown.
+/// [`crate::lock`] answer may be made in the net that they were shown ([`crate::changes_can_be_applied`]). What the net then
+/// touches or removes it had before, or a change says that the snapshot has the row.
 ///
 /// [`ExecFault::TooManyRows`] or [`ExecFault::TooLarge`] is answered where the net after the changes breaks that limit, and
 /// [`ExecFault::NoMemory`] where there is no memory for it; the net stays as it was then. The cost is that of

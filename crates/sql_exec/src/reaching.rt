@@ -8,37 +8,48 @@ ghost use Rattle.row_source.specs.Handing.{IsAccessTo, reaches};
 ghost use Rattle.row_source.specs.Sources as sources;
 ghost use Rattle.geo_schema.specs.Indexes.{HasIndex, index_at};
 ghost use Rattle.row_source.specs.Sources.{images, is_by_index, is_by_key, of_table};
+ghost use Rattle.sql_exec.specs.inner.Reaching.{rows_in};
 
 use geo_base::{NoMemory, RowId, RowImage, TableNo};
 use geo_schema::{Edge, KeyRange};
 use row_source::{Access, RowSource, Steps, names_are_of_one_row};
 use std::alloc::Global;
+use std::slice;
 use std::sync::ledger::Ledger;
 
-/// The image alone, where there is one.
-fn listed<'a>(alloc: Global, image: Option<&'a RowImage>) -> Result<Vec<&'a RowImage>, NoMemory>
-    ensures { IfOk result (λ found. map (λ image. image.now) found.items ≡ sources.listed (option_copied image.entry)) }
-{
-    let mut found = Vec::new(alloc);
-    if let Some(image) = image {
-        found.push(image)?;
+/// Rows that an access reaches, in the order of their keys.
+#[derive(Drop)]
+pub(crate) enum Reached<'a> {
+    /// The one row of a point, where there is one: it takes no list.
+    Named(Option<&'a RowImage>),
+    /// The rows of any other access.
+    Listed(Vec<&'a RowImage>),
+}
+
+impl<'a> Reached<'a> {
+    /// The rows.
+    pub(crate) fn as_slice(&self) -> &[&'a RowImage]
+        ensures { map (λ row. row.now) result.now ≡ rows_in self.entry.now }
+    {
+        match self {
+            Reached::Named(Some(row)) => slice::from_ref(row),
+            Reached::Named(None) => &[],
+            Reached::Listed(rows) => rows.as_slice(),
+        }
     }
-    Ok(found)
 }
 
 /// The one row with the name, where there is one.
 fn named<'a, R: RowSource, L: Ledger>(
-    alloc: Global,
     source: &'a R,
     row: &RowId,
     steps: &mut Steps<L>,
-) -> Result<Vec<&'a RowImage>, NoMemory>
-    ensures rows { IfOk result (λ found. map (λ image. image.now) found.items ≡ images (filter (λ entry. row_eq row.now entry.0) (R.rows source.entry.now))) }
+) -> Option<&'a RowImage>
+    ensures row { sources.listed (option_copied result) ≡ images (filter (λ entry. row_eq row.now entry.0) (R.rows source.entry.now)) }
     ensures steps { steps.new ≤ steps.old + length (filter (λ entry. row_eq row.now entry.0) (R.rows source.entry.now)) }
 {
     names_are_of_one_row();
-    let image = source.get(row, steps);
-    listed(alloc, image)
+    source.get(row, steps)
 }
 
 /// The rows of the table whose keys lie in the range.
@@ -90,22 +101,31 @@ fn whole<'a, R: RowSource, L: Ledger>(
     by_key(alloc, source, table, &range, steps)
 }
 
-/// The rows of the table that the access reaches, in the order of their keys.
+/// The rows of the table that the access reaches.
 pub(crate) fn reached_rows<'a, R: RowSource, L: Ledger>(
     alloc: Global,
     source: &'a R,
     table: TableNo,
     access: Access,
     steps: &mut Steps<L>,
-) -> Result<Vec<&'a RowImage>, NoMemory>
+) -> Result<Reached<'a>, NoMemory>
     requires { IsAccessTo (table_at (R.tables source.now) table) access }
-    ensures rows { IfOk result (λ found. map (λ image. image.now) found.items ≡ images (filter (reaches (R.tables source.entry.now) table access) (R.rows source.entry.now))) }
+    ensures rows { IfOk result (λ found. rows_in found ≡ images (filter (reaches (R.tables source.entry.now) table access) (R.rows source.entry.now))) }
     ensures steps { steps.new ≤ steps.old + reached (R.tables source.entry.now) table access (R.rows source.entry.now) }
 {
     match access {
-        Access::Point(key) => named(alloc, source, &RowId { table, key }, steps),
-        Access::Range(range) => by_key(alloc, source, table, &range, steps),
-        Access::Index(place, range) => by_index(alloc, source, table, place, &range, steps),
-        Access::Scan => whole(alloc, source, table, steps),
+        Access::Point(key) => Ok(Reached::Named(named(source, &RowId { table, key }, steps))),
+        Access::Range(range) => {
+            let rows = by_key(alloc, source, table, &range, steps)?;
+            Ok(Reached::Listed(rows))
+        }
+        Access::Index(place, range) => {
+            let rows = by_index(alloc, source, table, place, &range, steps)?;
+            Ok(Reached::Listed(rows))
+        }
+        Access::Scan => {
+            let rows = whole(alloc, source, table, steps)?;
+            Ok(Reached::Listed(rows))
+        }
     }
 }

@@ -136,7 +136,7 @@ fn planned_updates<R: RowSource, L: Ledger>(
 /// answer: [`ExecFault::Overflow`] or [`ExecFault::DivideByZero`], [`ExecFault::NullNotAllowed`] or
 /// [`ExecFault::TextTooLong`]. It is handed no more rows than the plan that is chosen for it reaches. Beside what
 /// [`crate::select`] takes for the rows the cost is a copy of each row that is kept and of its key, its values, and a
-/// question to the base.
+/// question to the base. An UPDATE of one row by its key takes memory for its plan's key and for its change alone.
 pub fn update<R: RowSource, L: Ledger>(
     alloc: Global,
     query: &BoundUpdate,

@@ -1,8 +1,9 @@
 -- Laws: a transaction's net is over its base what statements may leave, and stays so from one statement to the next.
-use Rattle.std.proofs.Common.{◌≡◌, ◌⊎◌, inl, inr, ℕ, true, Option, Some, None, IsSome, List, [], All, Contains, Result, Ok, Err, refl, sym, ◌∙◌, subst}
+use Rattle.std.proofs.Common.{◌≡◌, ◌⊎◌, inl, inr, ⊎_elim, ℕ, Bool, true, false, cond, Option, Some, None, IsSome, List, [], ◌∷◌, All, Contains, Result, Ok, Err, refl, sym, ◌∙◌, subst}
 use Rattle.std.specs.List.Sorted.{IsStrictlySortedBy}
 use Rattle.std.proofs.lemmas.List.Elements.{All-contains, All-nil}
 use Rattle.std.proofs.lemmas.Option.{none-some}
+use Rattle.geo_base.specs.Order.{row_eq}
 use Rattle.geo_base.specs.declared.cell.Cell.{Cell}
 use Rattle.geo_base.specs.declared.row_id.RowId.{RowId}
 use Rattle.geo_base.specs.declared.row_image.RowImage.{RowImage}
@@ -10,22 +11,59 @@ use Rattle.geo_schema.specs.Schemas.{Tables}
 use Rattle.row_source.specs.declared.fault.ExecFault.{ExecFault}
 use Rattle.row_source.specs.Sources.{AreRowsOf, Fits}
 use Rattle.sql_exec.specs.Changes.{AreChangesOfRows, ArePutsOfNewRows, HasFittingRow, IsOwnNet, IsPut, IsSoundChange}
-use Rattle.sql_exec.specs.Effects.{IsDone, IsLocked, IsNetAfter}
+use Rattle.sql_exec.specs.Effects.{HasRemovalsOf, IsDone, IsLocked, IsNetAfter}
 use Rattle.sql_exec.specs.laws.Reading.{all_from_found, found_from_all}
 use Rattle.sql_exec.specs.laws.Staying.{rows_stay}
 use Rattle.write_set.specs.declared.change.Change.{Change}
 use Rattle.write_set.specs.declared.change.Change.TheVariants.{Put, Remove, Touch}
 use Rattle.write_set.specs.declared.row_change.RowChange.{RowChange}
-use Rattle.write_set.specs.laws.Nets.{IsMadeBy, left_from}
-use Rattle.write_set.specs.Net.{change_in}
+use Rattle.write_set.specs.laws.Among.{among_first, among_later}
+use Rattle.write_set.specs.laws.Nets.{IsKnownBy, IsMadeBy, left_from}
+use Rattle.write_set.specs.laws.Rivals.{row_same}
+use Rattle.write_set.specs.Net.{IsNet, change_in, left_by, left_of}
 use Rattle.write_set.specs.Overlay.{Table, image_in, overlay}
 use Rattle.write_set.specs.Sets.{ChangeOfRow}
+
+-- ---- what a net removes
+
+left_removed : (before : Bool) (change : Change) (held : Option Change) → left_by before change held ≡ Some Remove → (held ≡ Some Remove) ⊎ (before ≡ true)
+left_removed before (Put image) held e = absurd cc
+left_removed true Remove held e = inr refl
+left_removed false Remove held e = absurd cc
+left_removed before Touch None e = absurd cc
+left_removed before Touch (Some change) e = inl e
+
+-- where a removal is left of a row, one was left before the changes, or one of them says that the row is in the snapshot
+removals_left : (changes : List RowChange) (row : RowId) (held : Option Change) → left_of changes row held ≡ Some Remove →
+    (held ≡ Some Remove) ⊎ IsKnownBy changes row
+removals_left [] row held e = inl e
+removals_left (c ∷ cs) row held e =
+    ⊎_elim
+    (λ here. by (row_eq row c.row) refl here)
+    (λ later. inr (later.0, among_later c later.0 cs later.1, later.2, later.3))
+    (removals_left cs row (cond (row_eq row c.row) (left_by c.before c.change held) held) e)
+  where
+    by : (b : Bool) → row_eq row c.row ≡ b → cond b (left_by c.before c.change held) held ≡ Some Remove → (held ≡ Some Remove) ⊎ IsKnownBy (c ∷ cs) row
+    by true is left = ⊎_elim inl (λ known. inr (c, among_first c cs, sym (row_same row c.row is), known)) (left_removed c.before c.change held left)
+    by false is left = inl left
+
+pub removals_of : (own : List ChangeOfRow) (changes : List RowChange) (net : List ChangeOfRow) → IsNet own changes net → HasRemovalsOf own changes net
+removals_of own changes net is row found = removals_left changes row (change_in own row) (sym (is.rows row) ∙ found)
+
+-- ---- the net of a transaction
 
 module _ (tables : Tables) (base : Table) where
   -- the net of a transaction that has done nothing
   pub none_done : AreRowsOf tables base → IsOwnNet tables base []
   unfolding IsStrictlySortedBy
-  none_done rows = record { base_rising = rows.rising; rising = tt; rows = rows; named = All-nil (HasFittingRow tables); touched = λ row none. absurd (none-some Touch none) }
+  none_done rows = record {
+    base_rising = rows.rising;
+    rising = tt;
+    rows = rows;
+    named = All-nil (HasFittingRow tables);
+    touched = λ row none. absurd (none-some Touch none);
+    removed = λ row none. absurd (none-some Remove none);
+  }
 
   -- ---- one change
 
@@ -78,12 +116,15 @@ module _ (tables : Tables) (base : Table) where
         by (inl held) = found_from_all (HasFittingRow tables) own row change before.named held
         by (inr (c, among, same_row, same_change)) = from_change row change c among same_row same_change
 
+    -- what a change says to be in the snapshot is in the base
+    row_known : (row : RowId) → IsKnownBy changes row → IsSome (image_in base row)
+    row_known row (c, among, same, known) = subst (λ (r : RowId). IsSome (image_in base r)) same (sym (made_at c among).sound.before ∙ known)
+
     row_touched : (row : RowId) → change_in net row ≡ Some Touch → IsSome (image_in base row)
-    row_touched row found = by (after.touches row found)
-      where
-        by : (change_in own row ≡ Some Touch) ⊎ ((c : RowChange) × Contains changes c × (c.row ≡ row) × (c.before ≡ true)) → IsSome (image_in base row)
-        by (inl held) = before.touched row held
-        by (inr (c, among, same, known)) = subst (λ (r : RowId). IsSome (image_in base r)) same (sym (made_at c among).sound.before ∙ known)
+    row_touched row found = ⊎_elim (before.touched row) (row_known row) (after.touches row found)
+
+    row_removed : (row : RowId) → change_in net row ≡ Some Remove → IsSome (image_in base row)
+    row_removed row found = ⊎_elim (before.removed row) (row_known row) (after.removals row found)
 
     pub net_stays : IsOwnNet tables base net
     net_stays = record {
@@ -92,6 +133,7 @@ module _ (tables : Tables) (base : Table) where
       rows = rows_stay tables base own changes net before.base_rising before.rising before.rows (λ k d within. (made k d within).sound) after.is_net;
       named = all_from_found (HasFittingRow tables) net after.is_net.rising row_named;
       touched = row_touched;
+      removed = row_removed;
     }
 
   -- ---- the changes of statements

@@ -1,4 +1,4 @@
-use Rattle.std.proofs.Common.{◌<◌, Bor, Result, List, [], ◌∷◌, get_or, length, map, sym, ap, subst}
+use Rattle.std.proofs.Common.{◌<◌, Bor, Result, List, [], ◌∷◌, get_or, length, map, sym, subst}
 use Rattle.geo_base.specs.Results.{Gives}
 use Rattle.geo_base.specs.declared.cell.Cell.{Cell}
 use Rattle.geo_base.specs.declared.row_image.RowImage.{RowImage}
@@ -6,6 +6,7 @@ use Rattle.row_source.specs.declared.fault.ExecFault.{ExecFault}
 use Rattle.row_source.specs.declared.fault.ExecFault.TheVariants as fault
 use Rattle.sql_exec.proofs.Locks.{by_plan, of_one, one_table, same_steps}
 use Rattle.sql_exec.proofs.for_update.lock.Goals as goal
+use Rattle.sql_exec.specs.inner.Reaching.{rows_in}
 use Rattle.write_set.specs.declared.row_change.RowChange.{RowChange}
 
 abbrev Made : Type 0
@@ -36,7 +37,7 @@ pub returns-clause-locked : goal.returns-clause-locked
 returns-clause-locked g c =
     let rows = g.R.RowSource.rows c.args.source.now in
     subst (λ (made : Made). Gives fault.NoMemory (λ l. (l.lines, l.touches)) c.lock_rows.result made)
-    (sym (by_plan c.args.schema.now (g.R.RowSource.base c.args.source.now) c.args.own.now c.args.query.now (get_or c.items.result.now 0 0) rows (images c.as_slice.result.now) (images c.in_ok-rows.rows.items)
+    (sym (by_plan c.args.schema.now (g.R.RowSource.base c.args.source.now) c.args.own.now c.args.query.now (get_or c.items.result.now 0 0) rows (images c.as_slice.result.now) (rows_in c.in_ok-rows.rows)
     c.requires.laid c.requires.rows (one_table c.args.query.now.tables c.items.result.now c.items.ensures c.requires.query.one) c.requires.query.not_grouped c.requires.unordered
-    (c.tests_drop_what_plans_leave_out.ensures c.args.schema.now (get_or c.items.result.now 0 0 ∷ []) c.args.query.now.tests rows c.requires.rows) (ap images c.as_slice.ensures.value) c.in_ok-rows.ensures.rows))
+    (c.tests_drop_what_plans_leave_out.ensures c.args.schema.now (get_or c.items.result.now 0 0 ∷ []) c.args.query.now.tests rows c.requires.rows) c.as_slice.ensures c.in_ok-rows.ensures.rows))
     c.lock_rows.ensures
