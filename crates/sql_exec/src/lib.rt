@@ -6,7 +6,7 @@
 //! the latter in two calls: they answer the changes of the statement, or its first fault, and `apply_changes` makes
 //! the changes in the transaction's net, in place. They are two since a source may be a view that borrows the net
 //! while the statement reads. An INSERT is handed no rows, and nothing else is handed more rows than its plan
-//! reaches. Queries are of one table, without groups and order.
+//! reaches. A query that locks is without order.
 //!
 //! `specs/Changes.antt` says what holds of the changes of a statement that writes, and of a transaction's net behind
 //! it. Laws say that it holds of each, that rows of a schema stay such rows under these changes, and which row a

@@ -1,9 +1,9 @@
 //! Queries.
-ghost use Rattle.std.specs.Prelude.{◌≡◌, ◌+◌, ◌≤◌, false, true, [], Ok, filter, length, map};
+ghost use Rattle.std.specs.Prelude.{◌≡◌, ◌+◌, ◌≤◌, false, true, [], Ok, filter, length, map, IsTrue};
 ghost use Rattle.std.specs.List.{All};
 ghost use Rattle.geo_base.specs.Results.{Gives};
 ghost use Rattle.geo_base.specs.declared.limits.TheConstants.{MAX_LINE_CELLS};
-ghost use Rattle.geo_schema.specs.Schemas.{table_at};
+ghost use Rattle.geo_schema.specs.Schemas.{IsSchema, table_at};
 ghost use Rattle.row_source.specs.Bounds.{reached, steps_of};
 ghost use Rattle.row_source.specs.Handing.{IsAccessTo, IsPlanFor, LeavesOut, reaches};
 ghost use Rattle.row_source.specs.Sources.{AreRowsOf, images};
@@ -20,6 +20,8 @@ use crate::pointing::answer_of_named;
 use crate::reaching::reached_rows;
 use geo_base::{RowId, RowImage, TableNo};
 use geo_schema::Schema;
+use group_exec::group;
+use join_exec::join;
 use row_source::{Access, ExecFault, Plan, RowSource, Steps};
 use sql_bind::BoundSelect;
 use sql_plan::{plan_of, tests_drop_what_plans_leave_out};
@@ -88,14 +90,55 @@ fn select_by<R: RowSource, L: Ledger>(
     reached_answer(alloc, query, source, table, plan.first, steps)
 }
 
-/// What a query of one table without groups and order answers: its lines in the order of keys, or its first fault. The rows
-/// that the plan hands out which is chosen for it are tested first, one after another, and LIMIT spares none of them; then
-/// all their lines are made; then LIMIT leaves the first ones; and then more than [`group_exec::limits::MAX_LINES`] of them
-/// are [`ExecFault::ResultTooLong`].
+/// What a query answers by a plan that leaves out only rows, or pairs of rows, that its tests drop.
+#[tactic(auto, unfolding(crate::specs::Answers::answer_of))]
+fn joined_answer<R: RowSource, L: Ledger>(
+    alloc: Global,
+    query: &BoundSelect,
+    source: &R,
+    plan: &Plan,
+    steps: &mut Steps<L>,
+) -> Result<LineList, ExecFault>
+    requires some { 1 ≤ length query.now.items }
+    requires few { length query.now.items ≤ MAX_LINE_CELLS }
+    requires schema { IsSchema (R.tables source.now) }
+    requires rows { AreRowsOf (R.tables source.now) (R.rows source.now) }
+    requires fits { IsPlanFor (R.tables source.now) query.now.tables plan.now }
+    requires leaves_out { LeavesOut (R.tables source.now) query.now.tables plan.now (R.rows source.now) (λ cells. kept cells query.now.tests ≡ Ok false) }
+    ensures answer { Gives fault.NoMemory (λ l. l) result (answer_of query.now (R.rows source.now)) }
+    ensures steps { steps.new ≤ steps.old + steps_of (R.tables source.now) query.now.tables plan.now (R.rows source.now) }
+{
+    let pairs = join(
+        alloc,
+        source,
+        query.tables.items(),
+        plan,
+        query.tests.items(),
+        steps,
+    )?;
+    let lines = group(alloc, query, pairs.as_slice());
+    drop(pairs);
+    lines
+}
+
+/// Whether a query has one table, and neither groups nor order.
+fn is_plain_query(query: &BoundSelect) -> bool
+    ensures one { IsTrue result → length query.now.tables ≡ 1 }
+    ensures ungrouped { IsTrue result → query.now.grouped ≡ false }
+    ensures unordered { IsTrue result → query.now.order ≡ [] }
+{
+    query.tables.items().len() == 1 && !query.grouped && query.order.items().is_empty()
+}
+
+/// What a query answers: its lines, or its first fault. The rows of its table, or the pairs of rows of its two in the order of left
+/// key and then right key, are tested first, one after another, and LIMIT spares none of them; then its lines are made, those of its
+/// rows or of its groups; they are put in order; then LIMIT leaves the first ones; and then more than
+/// [`group_exec::limits::MAX_LINES`] of them are [`ExecFault::ResultTooLong`]. [`ExecFault::NoMemory`] may come at any time.
 ///
-/// The cost is that of the choice, which takes some steps for each test and each column of a key or an index, what the
-/// source takes to hand the rows out, and a step for each of them and each test, item and cell of a line; a text is copied
-/// only into a line. A query of one row by its key takes no memory for its rows, and some for its plan.
+/// Only the rows are looked at that the plan hands out which is chosen for the query. The cost is that of the choice, which takes some
+/// steps for each test and each column of a key or an index, what [`join`] takes of rows and pairs, and what [`group`] takes of those
+/// that are kept. Where the query has one table, and neither groups nor ORDER BY, no row is copied, and a text only into a line; a
+/// query of one row by its key then takes no memory for its rows, and some for its plan.
 pub fn select<R: RowSource, L: Ledger>(
     alloc: Global,
     query: &BoundSelect,
@@ -104,15 +147,18 @@ pub fn select<R: RowSource, L: Ledger>(
     steps: &mut Steps<L>,
 ) -> Result<LineList, ExecFault>
     requires query { IsSoundSelect schema.now query.now }
-    requires one { length query.now.tables ≡ 1 }
-    requires ungrouped { query.now.grouped ≡ false }
-    requires unordered { query.now.order ≡ [] }
     requires schema { R.tables source.now ≡ schema.now }
     requires rows { AreRowsOf schema.now (R.rows source.now) }
     ensures answer { Gives fault.NoMemory (λ l. l) result (answer_of query.now (R.rows source.now)) }
     ensures steps { steps.new ≤ steps.old + steps_of schema.now query.now.tables (plans.plan_of schema.now query.now.tables query.now.tests) (R.rows source.now) }
 {
+    let _count = schema.count();
     tests_drop_what_plans_leave_out();
     let plan = plan_of(alloc, schema, query.tables.items(), query.tests.items())?;
-    select_by(alloc, query, source, plan, steps)
+    if is_plain_query(query) {
+        return select_by(alloc, query, source, plan, steps);
+    }
+    let answer = joined_answer(alloc, query, source, &plan, steps);
+    drop(plan);
+    answer
 }
