@@ -28,7 +28,7 @@ asked_txn : (r : Standing) (c : Candidate) (t : Ticket) → IsAsked r t → IsAs
 asked_txn r c t asked = record { earlier = asked.earlier; up = asked.up; named = λ same. by (asked.named same) }
   where
     by : IsNamed r t.id → IsNamed (after (entry.Txn c) r) t.id
-    by (region, inl (epoch, open)) = (region, inl (epoch, omega (arith, open, length-append r.open_candidates (c ∷ []))))
+    by (region, inl (epoch, within)) = (region, inl (epoch, omega (arith, within, length-append r.open_candidates (c ∷ []))))
     by (region, inr logged) = (region, inr logged)
 
 asked_new : (r : Standing) (c : Candidate) → r.up ≡ true → IsAsked (after (entry.Txn c) r) (next_ticket r)
@@ -42,7 +42,7 @@ asked_seal : (r : Standing) (t : Ticket) → IsAsked r t → IsAsked (after (ent
 asked_seal r t asked = record { earlier = asked.earlier; up = asked.up; named = λ same. by (asked.named same) }
   where
     by : IsNamed r t.id → IsNamed (after (entry.Seal (next_batch r)) r) t.id
-    by (region, inl (epoch, open)) = (region, inr (next_batch r, batch_last r.log (next_batch r) t.id.epoch epoch, open))
+    by (region, inl (epoch, within)) = (region, inr (next_batch r, batch_last r.log (next_batch r) t.id.epoch epoch, within))
     by (region, inr (batch, found, within)) =
         let there : t.id.epoch ≤ length r.log = batch_there r.log t.id.epoch (ap is_some found) in
         (region, inr (batch, batch_before r.log (next_batch r) t.id.epoch (λ last. omega (arith, last, there)) ∙ found, within))
@@ -92,11 +92,11 @@ module _ (old new : RegionValue) (lists : Lists) (tickets : List Ticket) (played
   pub took : (c : Candidate) (ticket : Ticket) → (submit_refusal c old.standing ≡ None) × (ticket ≡ next_ticket old.standing) × (new ≡ with_standing (after (entry.Txn c) old.standing) old) →
       IsPlayed new lists tickets × IsPlayed new lists (tickets ++ ticket ∷ [])
   took c ticket (none, is, same) =
-      let stay : All (IsAsked (after (entry.Txn c) old.standing)) tickets = All-weaker (IsAsked old.standing) (IsAsked (after (entry.Txn c) old.standing)) (asked_txn old.standing c) tickets played.tickets in
+      let stay : All (IsAsked (after (entry.Txn c) old.standing)) tickets = All-weaker (IsAsked old.standing) (IsAsked (after (entry.Txn c) old.standing)) (asked_txn old.standing c) tickets played.asked in
       let fresh = subst (IsAsked (after (entry.Txn c) old.standing)) (sym is) (asked_new old.standing c (is_up _ old.standing.up _ none).0) in (
-        subst (λ (r : RegionValue). IsPlayed r lists tickets) (sym same) (record { keepers = played.keepers; tickets = stay }),
+        subst (λ (r : RegionValue). IsPlayed r lists tickets) (sym same) (record { keepers = played.keepers; asked = stay }),
         subst (λ (r : RegionValue). IsPlayed r lists (tickets ++ ticket ∷ [])) (sym same)
-        (record { keepers = played.keepers; tickets = All-push (IsAsked (after (entry.Txn c) old.standing)) tickets ticket stay fresh }),
+            (record { keepers = played.keepers; asked = All-push (IsAsked (after (entry.Txn c) old.standing)) tickets ticket stay fresh }),
       )
 
   pub arrived : (batch : Batch) (told : Result Arrival BeginFault) → Arrives batch old told new → IsPlayed new lists tickets
@@ -104,19 +104,19 @@ module _ (old new : RegionValue) (lists : Lists) (tickets : List Ticket) (played
       subst (λ (r : RegionValue). IsPlayed r lists tickets) (sym same)
       (record {
         keepers = played.keepers;
-        tickets = All-weaker (IsAsked old.standing) (IsAsked (after (entry.Arrive batch) old.standing)) (asked_arrive old.standing batch) tickets played.tickets;
+        asked = All-weaker (IsAsked old.standing) (IsAsked (after (entry.Arrive batch) old.standing)) (asked_arrive old.standing batch) tickets played.asked;
       })
   arrived batch (Ok arrival.Known) (up, is, same) = same_played same
   arrived batch (Ok (arrival.Far limit)) (up, is, same) = same_played same
   arrived batch (Err fault) (due, why, same) = same_played same
 
   pub published : (judged : Decided) (told : Result Publish BeginFault) → PublishesBy judged old told new → IsPlayed new lists tickets
-  published judged (Ok (publish.Published epoch commits aborts)) (up, later, (next, becomes), counts) =
+  published judged (Ok (publish.Published epoch commits aborts)) (up, later, (next, becomes), commits_are, aborts_are) =
       let standing : new.standing ≡ after (entry.Publish epoch) old.standing = becomes.standing ∙ ap (λ (e : ℕ). after (entry.Publish e) old.standing) (sym next) in
       record {
         keepers = subst (λ (s : Standing). s.up ≡ true → AreItsKeepers s (Some lists)) (sym standing) played.keepers;
-        tickets = subst (λ (s : Standing). All (IsAsked s) tickets) (sym standing)
-            (All-weaker (IsAsked old.standing) (IsAsked (after (entry.Publish epoch) old.standing)) (asked_publish old.standing epoch) tickets played.tickets);
+        asked = subst (λ (s : Standing). All (IsAsked s) tickets) (sym standing)
+            (All-weaker (IsAsked old.standing) (IsAsked (after (entry.Publish epoch) old.standing)) (asked_publish old.standing epoch) tickets played.asked);
       }
   published judged (Ok (publish.Already epoch)) (up, later, is, same) = same_played same
   published judged (Err fault) (due, why, same) = same_played same
@@ -126,7 +126,7 @@ module _ (old new : RegionValue) (lists : Lists) (tickets : List Ticket) (played
       subst (λ (r : RegionValue). IsPlayed r after_lists tickets) (sym same)
       (record {
         keepers = λ up. absurd (is_down old.standing up);
-        tickets = All-weaker (IsAsked old.standing) (IsAsked (crashed old.standing)) (asked_crash old.standing) tickets played.tickets;
+        asked = All-weaker (IsAsked old.standing) (IsAsked (crashed old.standing)) (asked_crash old.standing) tickets played.asked;
       })
 
   pub kept_lists : (after_lists : Lists) → Some after_lists ≡ Some lists → IsPlayed new lists tickets → IsPlayed new after_lists tickets
@@ -138,8 +138,8 @@ module _ (old new : RegionValue) (lists : Lists) (tickets : List Ticket) (played
       OnOk told (AreItsKeepers old.standing (Some lists) → AreItsKeepers new.standing (Some after_lists)) → IsPlayed new after_lists tickets
   sealed after_lists (Ok told) (none, is, same) gained keepers = record {
     keepers = λ up. keepers (played.keepers (is_up _ old.standing.up _ none).0);
-    tickets = subst (λ (r : RegionValue). All (IsAsked r.standing) tickets) (sym same)
-        (All-weaker (IsAsked old.standing) (IsAsked (after (entry.Seal (next_batch old.standing)) old.standing)) (asked_seal old.standing) tickets played.tickets);
+    asked = subst (λ (r : RegionValue). All (IsAsked r.standing) tickets) (sym same)
+        (All-weaker (IsAsked old.standing) (IsAsked (after (entry.Seal (next_batch old.standing)) old.standing)) (asked_seal old.standing) tickets played.asked);
   }
   sealed after_lists (Err of_seal.LogFault) (none, same) gained keepers = went_down after_lists same
   sealed after_lists (Err of_seal.Down) (due, same) gained keepers = kept_lists after_lists gained (same_played same)
@@ -150,6 +150,6 @@ module _ (old new : RegionValue) (lists : Lists) (tickets : List Ticket) (played
   pub went_up : old.standing.up ≡ false → Starts (Some lists) old new → IsPlayed new lists tickets
   went_up down starts = record {
     keepers = λ up. starts.spelled;
-    tickets = subst (λ (r : RegionValue). All (IsAsked r.standing) tickets) (sym starts.state)
-        (All-weaker (IsAsked old.standing) (IsAsked (started new.standing.log (crashed old.standing))) (λ t. asked_start old.standing new.standing.log t down) tickets played.tickets);
+    asked = subst (λ (r : RegionValue). All (IsAsked r.standing) tickets) (sym starts.state)
+        (All-weaker (IsAsked old.standing) (IsAsked (started new.standing.log (crashed old.standing))) (λ t. asked_start old.standing new.standing.log t down) tickets played.asked);
   }

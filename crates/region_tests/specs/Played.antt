@@ -25,4 +25,4 @@ pub record IsAsked (r : Standing) (ticket : Ticket) : Type 0 where
 -- the keepers have the region's log while it is up, and each ticket can be asked for
 pub record IsPlayed (r : RegionValue) (lists : Lists) (tickets : List Ticket) : Type 0 where
   pub keepers : r.standing.up ≡ true → AreItsKeepers r.standing (Some lists)
-  pub tickets : All (IsAsked r.standing) tickets
+  pub asked : All (IsAsked r.standing) tickets
