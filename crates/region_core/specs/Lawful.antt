@@ -1,13 +1,10 @@
 -- What holds of every region, whatever came before: the invariant of Region, which a call that does nothing shows. It is lawfulness
 -- by the region's own tests.
-use Rattle.std.specs.Prelude.{◌≡◌, ◌≢◌, ℕ, ◌+◌, ◌<◌, ◌≤◌, true, false, None, Some, List, [], ◌∷◌, length, All, Contains}
+use Rattle.std.specs.Prelude.{◌≡◌, ◌≢◌, ℕ, ◌+◌, ◌<◌, ◌≤◌, true, false, None, Some, List, [], ◌∷◌, length, All}
 use Rattle.std.specs.List.{slice_get}
 use Rattle.geo_base.specs.declared.limits.TheConstants.{MAX_AGE, MAX_REGIONS, MAX_BATCH_BYTES, LAST_EPOCH}
 use Rattle.geo_base.specs.declared.outcome.Outcome.{Outcome}
-use Rattle.geo_base.specs.declared.row_id.RowId.{RowId}
-use Rattle.geo_base.specs.declared.row_image.RowImage.{RowImage}
-use Rattle.geo_schema.specs.Schemas.{Tables, IsSchema}
-use Rattle.row_source.specs.Sources.{Fits}
+use Rattle.geo_schema.specs.Schemas.{IsSchema}
 use Rattle.write_set.specs.declared.batch.Batch.{Batch}
 use Rattle.write_set.specs.declared.candidate.Candidate.{Candidate}
 use Rattle.write_set.specs.Bounds.{AreSomeRows, IsCandidateCount}
@@ -18,8 +15,8 @@ use Rattle.set_codec.specs.Fits.{FitsTables, FitsRegions, HaveCells}
 use Rattle.own_log.specs.Logs.{AreOfLog}
 use Rattle.epoch_inbox.specs.declared.arrival.Arrival.TheVariants.{New}
 use Rattle.epoch_inbox.specs.Inbox.{IsLawful, held_at, arrival_of}
-use Rattle.version_store.specs.Chains.{Version}
-use Rattle.version_store.specs.History.{Kept, IsKept, chain_of}
+use Rattle.snap_view.specs.Snapshots.{ImagesFit}
+use Rattle.version_store.specs.History.{IsKept}
 use Rattle.region_core.specs.Region.{Standing, RegionValue, open_epoch, next_epoch, horizon_at, inbox_of, own_batch, next_batches, unpublished}
 use Rattle.region_core.specs.Entries.{Entry, Txn, Seal, Arrive, Publish, Crash, next_batch, down_with, after, after_all}
 use Rattle.region_core.specs.Publishing.{Becomes}
@@ -61,10 +58,6 @@ pub record IsStanding (r : Standing) : Type 0 where
   pub down : r.up ≡ false → r ≡ down_with r.number r.regions r.tables r.last r.life r.log
 
 -- ---- a region
-
--- each image that is kept is that of a row of the tables
-abbrev pub ImagesFit : Tables → Kept → Type 0
-ImagesFit tables kept = (row : RowId) (version : Version) (image : RowImage) → Contains (chain_of kept row) version → version.image ≡ Some image → Fits tables (row, image)
 
 -- a region that its calls have made
 pub record IsRegion (r : RegionValue) : Type 0 where

@@ -23,6 +23,7 @@ use Rattle.set_codec.specs.Fits.{FitsTable, FitsTables}
 use Rattle.epoch_inbox.specs.Inbox.{AreOfRegions, AreInOrder}
 use Rattle.epoch_inbox.specs.laws.Held.{held_counted, whole_ordered}
 use Rattle.index_store.specs.laws.Members.{from_flat_map}
+use Rattle.snap_view.specs.Snapshots.{ImagesFit}
 use Rattle.version_store.specs.Chains.{Version, Chain, kept_at, standing}
 use Rattle.version_store.specs.History.{IsKept, chain_of}
 use Rattle.version_store.specs.laws.Keeping.{grown_images}
@@ -30,7 +31,7 @@ use Rattle.region_core.specs.Region.{Standing, RegionValue, next_epoch, horizon_
 use Rattle.region_core.specs.Entries as entry
 use Rattle.region_core.specs.Entries.{crashed, started, after}
 use Rattle.region_core.specs.Publishing.{next_committed, next_outcomes, next_own_outcomes, Publishes}
-use Rattle.region_core.specs.Lawful.{IsHeldIn, IsStanding, ImagesFit, IsRegion, EntryMakesRegion}
+use Rattle.region_core.specs.Lawful.{IsHeldIn, IsStanding, IsRegion, EntryMakesRegion}
 use Rattle.region_core.specs.laws.Standings.{up_not_down, is_up, get_end, get_before, stands_after}
 
 -- ---- images

@@ -13,9 +13,10 @@ use Rattle.write_set.specs.Merge.{verdict_of}
 use Rattle.epoch_inbox.specs.Inbox.{IsWhole, place_of, place_cmp, held_of, is_held, regions_held, with_batch}
 use Rattle.epoch_inbox.specs.laws.Held.{exact_places, filter_no, held_counted}
 use Rattle.merge_round.specs.Gathers.{Decided}
-use Rattle.snap_view.specs.Snapshots.{Held, last_held}
+use Rattle.snap_view.specs.Snapshots.{Held, IsSnapshot, last_held}
+use Rattle.snap_view.specs.laws.Histories.{tells_newest}
 use Rattle.version_store.specs.Chains.{newest_epoch}
-use Rattle.version_store.specs.History.{Kept, chain_of}
+use Rattle.version_store.specs.History.{Kept, IsKept, chain_of}
 use Rattle.region_core.specs.Region.{Standing, RegionValue, open_epoch, next_epoch, inbox_of, next_batches, next_candidates, last_in, with_standing}
 use Rattle.region_core.specs.Entries as entry
 use Rattle.region_core.specs.Entries.{Entry, next_batch, after}
@@ -49,8 +50,18 @@ whole_next r h none =
     upto n regions e = grind (arith, nat_tests)
 
 -- the last change of a row that the snapshot of the published epoch holds is the one that the region holds
-last_same : (r : RegionValue) (before : Held) (row : RowId) → IsOfEpoch r r.standing.published before → last_held before row ≡ last_in r row
-last_same r before row is = ap (λ (kept : Kept). newest_epoch (chain_of kept row)) is.versions
+last_same : (r : RegionValue) (before : Held) (row : RowId) → IsRegion r → IsOfEpoch r r.standing.published before → last_held before row ≡ last_in r row
+last_same r before row region is = tells_newest before row snapshot last ∙ ap (λ (kept : Kept). newest_epoch (chain_of kept row)) is.versions
+  where
+    last : before.epoch ≡ before.versions.applied
+    last = is.epoch ∙ sym region.applied ∙ ap (λ (kept : Kept). kept.applied) (sym is.versions)
+
+    snapshot : IsSnapshot before
+    snapshot = record {
+      order = subst IsKept (sym is.versions) region.kept;
+      from = omega (arith, is.epoch, region.horizon, ap (λ (kept : Kept). kept.horizon) is.versions);
+      upto = omega (arith, last);
+    }
 
 pub rounds_give : RoundsGiveOutcomes
 rounds_give r of batches before round region none is over = λ up. inr (epoch_is, whole_next r.standing region.stands none, λ i. map (verdict_of (last_is i) (epoch_is i) (all_is i)) (all_is i))
@@ -62,7 +73,7 @@ rounds_give r of batches before round region none is over = λ up. inr (epoch_is
     all_is = over.all ∙ ap candidates_of is.held
 
     last_is : round.last ≡ last_in r
-    last_is = over.last ∙ (λ i row. last_same r before row is.snapshot i)
+    last_is = over.last ∙ (λ i row. last_same r before row region is.snapshot i)
 
 -- ---- a whole epoch
 
