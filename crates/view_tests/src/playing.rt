@@ -1,9 +1,10 @@
 //! Playing lines: epochs are applied, the horizon is moved, snapshots are taken, and views are asked.
 //!
-//! `epoch BATCHES` applies the next epoch, `rows FIRST LAST OWNER` one in which a candidate puts these rows, `trim N` moves the horizon, `view N` takes the snapshot of an epoch, `copy`
-//! puts a copy of the snapshot in its place, and `own CHANGES` says what the transaction has written. What else a line
-//! asks is told behind ` => `: `at` the snapshot's epoch, `last ROW` the last change that it holds for the row, `row ROW`
-//! the row and whether the snapshot has it, `keys TABLE RANGE` and `index TABLE INDEX RANGE` the rows in the range.
+//! `epoch BATCHES` applies the next epoch, `rows FIRST LAST OWNER` one in which a candidate puts these rows, `trim N`
+//! moves the horizon, `view N` takes the snapshot of an epoch, `copy` puts a copy of the snapshot in its place, and
+//! `own CHANGES` says what the transaction has written. What else a line asks is told behind ` => `: `at` the snapshot's
+//! epoch, `last ROW` the last change that it holds for the row, `row ROW` the row and whether the snapshot has it,
+//! `keys TABLE RANGE` and `index TABLE INDEX RANGE` the rows in the range.
 ghost use Rattle.std.specs.Prelude.{◌≡◌, ◌<◌};
 ghost use Rattle.snap_view.specs.Snapshots.{HoldsIndexes};
 

@@ -31,6 +31,10 @@ index 0 0 [8 .. [8 => (3, 8, 100)
 index 0 0 open .. open => (1, 7, 100)(2, 7, 50)(3, 8, 100)
 index 0 1 [100 .. open => (1, 7, 100)(3, 8, 100)
 index 0 1 [100 8 .. [100 8 => (3, 8, 100)
+last 0 1 => 1
+last 0 2 => 1
+last 0 3 => 1
+last 0 4 => 0
 view 2
 at => 2
 row 0 2 => (2, 8, 60) in base
@@ -39,6 +43,10 @@ keys 0 open .. open => (1, 7, 100)(2, 8, 60)
 index 0 0 [7 .. [7 => (1, 7, 100)
 index 0 0 [8 .. [8 => (2, 8, 60)
 index 0 1 open .. (100 => (2, 8, 60)
+last 0 1 => 1
+last 0 2 => 2
+last 0 3 => 2
+last 0 4 => 0
 view 3
 keys 0 open .. open => (1, 7, 100)(2, 8, 60)(4, 7, 10)
 index 0 0 [7 .. [7 => (1, 7, 100)(4, 7, 10)
@@ -46,11 +54,46 @@ last 0 1 => 1
 last 0 2 => 2
 last 0 3 => 2
 last 0 4 => 3
-last 0 9 => 0";
+last 0 9 => 0
+trim 2
+view 2
+last 0 1 => 1
+last 0 2 => 2
+last 0 3 => 0
+last 0 4 => 0";
 
 #[test]
 fn a_snapshot_has_the_rows_of_its_epoch(rt: HostRuntime) -> Result<(), Fail> {
     play(rt.alloc(), TABLES, EPOCHS)
+}
+
+/// Account 1 had owner 7 after epoch 1 and has it no more, account 2 has come to owner 7 since: a range at epoch 1 finds
+/// the one by an older version than the newest, and not the other.
+const OLDER: &str = "\
+epoch 0 1 -> 1 7 100 & 0 2 -> 2 9 50 & 0 3 -> 3 7 1
+epoch 0 1 -> 1 8 100 & 0 2 -> 2 7 50
+epoch 0 1 -> 1 9 100 & 0 3 x
+view 1
+index 0 0 [7 .. [7 => (1, 7, 100)(3, 7, 1)
+index 0 0 [8 .. [8 => none
+index 0 0 [9 .. [9 => (2, 9, 50)
+view 2
+index 0 0 [7 .. [7 => (2, 7, 50)(3, 7, 1)
+index 0 0 [8 .. [8 => (1, 8, 100)
+index 0 0 [9 .. [9 => none
+trim 2
+view 2
+index 0 0 [7 .. [7 => (2, 7, 50)(3, 7, 1)
+index 0 0 [8 .. [8 => (1, 8, 100)
+index 0 1 [100 8 .. [100 8 => (1, 8, 100)
+index 0 1 [100 9 .. [100 9 => none
+view 3
+index 0 0 [7 .. [7 => (2, 7, 50)
+index 0 0 [9 .. [9 => (1, 9, 100)";
+
+#[test]
+fn a_range_finds_older_versions(rt: HostRuntime) -> Result<(), Fail> {
+    play(rt.alloc(), TABLES, OLDER)
 }
 
 /// A snapshot and a copy of it stay as they are while their region goes on. After the trim the versions that they read
@@ -90,6 +133,8 @@ row 0 2 => none in base
 row 0 3 => (3, 8, 100) in base
 row 0 5 => (5, 7, 30)
 row 0 4 => none
+last 0 1 => 1
+last 0 5 => 0
 keys 0 open .. open => (0, 7, 1)(1, 9, 100)(3, 8, 100)(5, 7, 30)(6, 8, 20)(9, 8, 2)
 keys 0 [1 .. [5 => (1, 9, 100)(3, 8, 100)(5, 7, 30)
 keys 0 (1 .. (5 => (3, 8, 100)
