@@ -1,5 +1,5 @@
 //! What a statement is answered, as a text: its lines, what it has changed and the net behind it, its plan, or its fault.
-ghost use Rattle.std.specs.Prelude.{◌≡◌, false, [], length, IsTrue};
+ghost use Rattle.std.specs.Prelude.{◌≡◌, [], IsTrue};
 ghost use Rattle.row_source.specs.Sources.{AreRowsOf};
 ghost use Rattle.sql_bind.specs.Sound.{IsSound, IsSoundSelect};
 ghost use Rattle.sql_bind.specs.Statements as statements;
@@ -22,13 +22,11 @@ use std::sync::ledger::Ledger;
 use std::test::Fail;
 use write_set::WriteSet;
 
-/// Whether a query has one table, and neither groups nor order.
-fn is_plain(query: &BoundSelect) -> bool
-    ensures one { IsTrue result → length query.now.tables ≡ 1 }
-    ensures ungrouped { IsTrue result → query.now.grouped ≡ false }
-    ensures unordered { IsTrue result → query.now.order ≡ [] }
+/// Whether a query is without order.
+fn is_unordered(query: &BoundSelect) -> bool
+    ensures { IsTrue result → query.now.order ≡ [] }
 {
-    query.tables.items().len() == 1 && !query.grouped && query.order.items().is_empty()
+    query.order.items().is_empty()
 }
 
 fn print_explained(
@@ -63,10 +61,8 @@ fn print_bound<L: Ledger>(
     requires base { Rises source.now.list.base }
 {
     let printed = match bound {
-        Bound::Select(query) if is_plain(query) => {
-            print_answer(out, select(alloc, query, source, schema, steps))
-        }
-        Bound::Lock(query) if is_plain(query) => {
+        Bound::Select(query) => print_answer(out, select(alloc, query, source, schema, steps)),
+        Bound::Lock(query) if is_unordered(query) => {
             let done = do_lock(alloc, query, source, own, schema, steps);
             print_done(out, done, own)
         }
@@ -135,7 +131,7 @@ fn statement_of(alloc: Global, text: &str) -> Result<Statement, Fail> {
 }
 
 /// Writes what the statement of a text is answered behind the net of the transaction, in which its changes are made. It has
-/// to be one that writes, a query of one table without groups and order, or any query that is explained.
+/// to be one that writes or a query, and one with FOR UPDATE has to be without order.
 pub fn print_text<L: Ledger>(
     out: &mut String,
     alloc: Global,

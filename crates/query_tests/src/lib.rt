@@ -14,6 +14,8 @@ mod faults;
 #[cfg(test)]
 mod integers;
 #[cfg(test)]
+mod joined;
+#[cfg(test)]
 mod limits;
 #[cfg(test)]
 mod plain;
