@@ -1,9 +1,10 @@
 //! Playing lines: epochs are applied, the horizon is moved, and ranges are asked for.
 //!
-//! Changes, batches and ranges are written as `index_kit` reads them. `epoch BATCHES` applies the next epoch, and `rows FIRST LAST OWNER` one in which a candidate puts the rows of table 0
-//! with the keys from the first to the last. `trim N` moves the horizon, and `fork` keeps a fork of the store. `ask
-//! TABLE INDEX RANGE` asks the store, and `old TABLE INDEX RANGE` the fork; the keys that it is to tell, or `none`, stand
-//! behind ` => `.
+//! Changes, batches and ranges are written as `index_kit` reads them. `epoch BATCHES` applies the next epoch, and
+//! `rows FIRST LAST OWNER` one in which a candidate puts the rows of table 0 with the keys from the first to the last.
+//! `trim N` moves the horizon, `fork` keeps a fork of the store, and `swap` puts each of them in the other's place.
+//! `ask TABLE INDEX RANGE` asks the store, and `old TABLE INDEX RANGE` the fork; the keys that it is to tell, or `none`,
+//! stand behind ` => `.
 use crate::epochs::apply;
 use crate::plain_versions::PlainVersions;
 use crate::tables::schema_of;
@@ -98,6 +99,7 @@ fn answer(alloc: Global, played: &mut Played, line: &str) -> Result<String, Fail
         }
         "trim" => trim(played, words)?,
         "fork" => fork(played)?,
+        "swap" => swap(&mut played.store, &mut played.fork),
         _ => return asked(alloc, played, verb, words),
     }
     Ok(String::new(alloc))

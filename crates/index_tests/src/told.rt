@@ -61,6 +61,25 @@ fn a_range_finds_the_rows_of_all_kept_epochs(rt: HostRuntime) -> Result<(), Fail
     play(rt.alloc(), ONE_INDEX, KEPT)
 }
 
+/// A fork drops what was lost before it was made, as what it was made of does.
+const FORK_TRIMMED: &str = "\
+epoch 0 1 -> 1 10 5; 0 2 -> 2 10 5
+epoch 0 1 -> 1 20 5; 0 2 x
+fork
+swap
+trim 2
+ask 0 0 [10 .. [10 => none
+ask 0 0 open .. open => (1)
+old 0 0 [10 .. [10 => (1)(2)
+swap
+trim 2
+ask 0 0 [10 .. [10 => none";
+
+#[test]
+fn a_fork_drops_what_was_lost(rt: HostRuntime) -> Result<(), Fail> {
+    play(rt.alloc(), ONE_INDEX, FORK_TRIMMED)
+}
+
 /// What aborts, and what is only touched, has no part in an index.
 const ABORTED: &str = "\
 epoch !0 1 -> 1 10 0; 0 2 -> 2 20 0
