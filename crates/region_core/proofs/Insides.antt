@@ -1,6 +1,5 @@
 -- The fields of a region, as the value that they are seen as.
 use Rattle.std.proofs.Common.{ℕ, Bool, List}
-use Rattle.geo_base.specs.declared.outcome.Outcome.{Outcome}
 use Rattle.write_set.specs.declared.batch.Batch.{Batch}
 use Rattle.write_set.specs.declared.candidate.Candidate.{Candidate}
 use Rattle.epoch_inbox.specs.Inbox.{Holding}

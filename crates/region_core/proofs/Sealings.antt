@@ -145,8 +145,8 @@ module _ (a : Inside) (h : AreInside a) (r : RegionValue) (is : view_of a ≡ r)
           gone
           ∙ (λ i. holding (put i).regions (without_batch (put i).held (of i) (is i).standing.number))
           ∙ ap (holding a.inbox.regions)
-              (subst (λ (x : RegionValue). without_batch (with_batch a.inbox.held (next_batch x.standing)) (open_epoch x.standing) x.standing.number ≡ a.inbox.held) is
-              (next_let_go (view_of a).standing h.lawful.stands next_goes))
+          (subst (λ (x : RegionValue). without_batch (with_batch a.inbox.held (next_batch x.standing)) (open_epoch x.standing) x.standing.number ≡ a.inbox.held) is
+          (next_let_go (view_of a).standing h.lawful.stands next_goes))
 
   -- ---- what the log got
 

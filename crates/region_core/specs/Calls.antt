@@ -8,7 +8,6 @@ use Rattle.geo_io.specs.Told.{Lists, list_of, Gains, MayGain, Moves}
 use Rattle.row_source.specs.Sources.{AreRowsOf}
 use Rattle.write_set.specs.declared.batch.Batch.{Batch}
 use Rattle.write_set.specs.declared.candidate.Candidate.{Candidate}
-use Rattle.write_set.specs.Journal.{AreBatches}
 use Rattle.write_set.specs.Merge.{is_committed}
 use Rattle.set_codec.specs.Alone.{SpellsBatch}
 use Rattle.set_codec.specs.Spelling.{batch_spelling}

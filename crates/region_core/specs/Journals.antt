@@ -1,14 +1,13 @@
 -- What a region has to do with a journal, which is all that the regions have sealed; and what stays so at each entry.
-use Rattle.std.specs.Prelude.{◌≡◌, ℕ, ◌+◌, ◌<◌, ◌≤◌, true, Option, Some, None, List, [], ◌∷◌, ◌++◌, length, All, slice_set}
+use Rattle.std.specs.Prelude.{◌≡◌, ℕ, ◌+◌, ◌<◌, ◌≤◌, true, Some, None, List, [], ◌∷◌, ◌++◌, length, All, slice_set}
 use Rattle.geo_base.specs.declared.outcome.Outcome.{Outcome}
 use Rattle.write_set.specs.declared.batch.Batch.{Batch}
-use Rattle.write_set.specs.declared.candidate.Candidate.{Candidate}
 use Rattle.write_set.specs.Journal.{Journal, Epochs, IsJournal, IsFront, Extends, log_of, batch_at, epochs_of}
 use Rattle.write_set.specs.Merge.{last_change, verdicts}
 use Rattle.version_store.specs.History.{IsHistoryOf}
 use Rattle.region_core.specs.Region.{Standing, RegionValue, next_epoch, own_outcomes, next_batches, unpublished}
 use Rattle.region_core.specs.Entries as entry
-use Rattle.region_core.specs.Entries.{Entry, next_batch, after, started}
+use Rattle.region_core.specs.Entries.{Entry, after, started}
 use Rattle.region_core.specs.Publishing.{own_outcomes_by, next_outcomes, Becomes}
 use Rattle.region_core.specs.Lawful.{IsRegion, Accepts}
 

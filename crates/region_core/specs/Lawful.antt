@@ -1,6 +1,6 @@
 -- What holds of every region, whatever came before: the invariant of Region, which a call that does nothing shows. It is lawfulness
 -- by the region's own tests.
-use Rattle.std.specs.Prelude.{◌≡◌, ◌≢◌, ℕ, ◌+◌, ◌<◌, ◌≤◌, true, false, Option, None, Some, List, [], ◌∷◌, length, All, Contains}
+use Rattle.std.specs.Prelude.{◌≡◌, ◌≢◌, ℕ, ◌+◌, ◌<◌, ◌≤◌, true, false, None, Some, List, [], ◌∷◌, length, All, Contains}
 use Rattle.std.specs.List.{slice_get}
 use Rattle.geo_base.specs.declared.limits.TheConstants.{MAX_AGE, MAX_REGIONS, MAX_BATCH_BYTES, LAST_EPOCH}
 use Rattle.geo_base.specs.declared.outcome.Outcome.{Outcome}

@@ -6,7 +6,7 @@ use Rattle.geo_base.specs.declared.row_id.RowId.{RowId}
 use Rattle.write_set.specs.Journal.{Placed}
 use Rattle.write_set.specs.Merge.{verdict_of, committed_among}
 use Rattle.version_store.specs.History.{Kept, IsKept, IsApplied, IsTrimmed}
-use Rattle.region_core.specs.Region.{RegionValue, Standing, next_epoch, next_candidates, last_in, horizon_at, unpublished, with_standing}
+use Rattle.region_core.specs.Region.{RegionValue, next_epoch, next_candidates, last_in, horizon_at, unpublished, with_standing}
 use Rattle.region_core.specs.Entries.{Entry, Txn, Seal, Arrive, Publish, Crash, after}
 
 -- what becomes of each of these candidates of the epoch, where `last` gives each row's last change

@@ -5,7 +5,7 @@ use Rattle.write_set.specs.Journal.{candidates_of}
 use Rattle.merge_round.specs.Gathers.{Decided}
 use Rattle.merge_round.specs.Rounds.{Round, outcomes_of}
 use Rattle.snap_view.specs.Snapshots.{Held, last_held}
-use Rattle.region_core.specs.Region.{RegionValue, Standing, next_epoch, next_batches}
+use Rattle.region_core.specs.Region.{RegionValue, next_epoch, next_batches}
 use Rattle.region_core.specs.Entries as entry
 use Rattle.region_core.specs.Entries.{Entry}
 use Rattle.region_core.specs.Publishing.{next_outcomes, Becomes}

@@ -1,5 +1,5 @@
 -- Laws: a region stays one of its journal's at each entry, and when other regions seal; and it publishes by the journal's verdicts.
-use Rattle.std.proofs.Common.{◌≡◌, ℕ, zero, suc, ◌+◌, ◌-◌, ◌<◌, ◌≤◌, Bool, true, false, cond, ◌==◌, Option, Some, None, List, [], ◌∷◌, ◌++◌, length, map, filter, slice_set, Contains, refl, sym, ap, ap₂, ◌∙◌, subst, arith, length-append, append-nil, append_assoc, not, ◌⊎◌, inl, inr}
+use Rattle.std.proofs.Common.{◌≡◌, ℕ, zero, suc, ◌+◌, ◌-◌, ◌<◌, ◌≤◌, Bool, true, false, cond, ◌==◌, Option, Some, None, List, [], ◌∷◌, ◌++◌, length, map, filter, slice_set, Contains, refl, sym, ap, ap₂, ◌∙◌, subst, arith, append-nil, append_assoc, not, ◌⊎◌, inl, inr}
 use Rattle.std.specs.Prelude.{All, slice_index_or}
 use Rattle.std.specs.List.{AllByRecursion, slice_get, cons_option}
 use Rattle.std.proofs.lemmas.Bool.{cases_lt}
@@ -8,7 +8,6 @@ use Rattle.geo_base.specs.declared.limits.TheConstants.{MAX_AGE}
 use Rattle.geo_base.specs.declared.outcome.Outcome.{Outcome}
 use Rattle.geo_base.specs.declared.row_id.RowId.{RowId}
 use Rattle.write_set.specs.declared.batch.Batch.{Batch}
-use Rattle.write_set.specs.declared.candidate.Candidate.{Candidate}
 use Rattle.write_set.specs.Sets.{has_row}
 use Rattle.write_set.specs.Journal.{Journal, Epochs, Placed, IsBatch, IsCandidate, IsJournal, IsFront, Extends, log_of, batch_at, batches_at, candidates_of, epochs_of, last_sealed}
 use Rattle.write_set.specs.Merge.{committed, committed_among, last_change, verdict_of, verdicts}
@@ -16,18 +15,18 @@ use Rattle.write_set.specs.laws.Among.{filtered_among}
 use Rattle.write_set.specs.laws.Committing.{verdicts_commit}
 use Rattle.write_set.specs.laws.Placing.{IsPlaced, batches_rise, candidates_lawful, length_epochs}
 use Rattle.write_set.specs.laws.Sealing.{batch_stays, epochs_stay, with_batch_extends, with_batch_lawful, with_batch_new}
-use Rattle.epoch_inbox.specs.Inbox.{AreOfRegions, AreInOrder, held_of, others, with_batch}
+use Rattle.epoch_inbox.specs.Inbox.{AreOfRegions, AreInOrder, with_batch}
 use Rattle.epoch_inbox.specs.laws.Held.{all_with, all_mapped, held_counted, whole_ordered}
 use Rattle.merge_round.specs.Rounds.{Serves}
 use Rattle.merge_round.specs.laws.Judging.{map_same, judges_alike}
-use Rattle.version_store.specs.History.{Kept, IsHistoryOf, IsApplied}
+use Rattle.version_store.specs.History.{IsHistoryOf, IsApplied}
 use Rattle.version_store.specs.laws.Growing.{begins, applied, trimmed, stays, change_after, change_upto}
-use Rattle.region_core.specs.Region.{Standing, RegionValue, open_epoch, next_epoch, horizon_at, inbox_of, own_outcomes, next_batches, next_candidates, last_in, no_versions, unpublished, with_standing}
+use Rattle.region_core.specs.Region.{Standing, RegionValue, open_epoch, next_epoch, horizon_at, inbox_of, own_outcomes, next_batches, next_candidates, last_in, unpublished, with_standing}
 use Rattle.region_core.specs.Entries as entry
 use Rattle.region_core.specs.Entries.{Entry, next_batch, after, crashed, started}
-use Rattle.region_core.specs.Publishing.{outcomes_by, own_outcomes_by, next_outcomes, next_own_outcomes, next_committed, Publishes, Becomes}
+use Rattle.region_core.specs.Publishing.{next_outcomes, next_own_outcomes, next_committed, Publishes, Becomes}
 use Rattle.region_core.specs.Lawful.{IsOpenIn, IsRegion, Accepts}
-use Rattle.region_core.specs.Journals.{own_verdicts, IsPublishedIn, IsAsSealed, IsRegionIn, sealed_by, IsOfJournal, PublishesAsSealed, StaysWithOthers, OthersMaySeal, SealsStayJournals, PublishedStays, EntriesStay, StartsStay, NextOutcomesAreVerdicts}
+use Rattle.region_core.specs.Journals.{own_verdicts, IsPublishedIn, IsAsSealed, IsRegionIn, sealed_by, IsOfJournal, PublishesAsSealed, OthersMaySeal, SealsStayJournals, PublishedStays, EntriesStay, StartsStay, NextOutcomesAreVerdicts}
 use Rattle.region_core.specs.laws.Standings.{up_not_down, is_up}
 
 -- ---- journals that grow

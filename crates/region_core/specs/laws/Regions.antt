@@ -1,5 +1,5 @@
 -- Laws: what an entry makes of a region is a region.
-use Rattle.std.proofs.Common.{◌≡◌, ℕ, zero, suc, ◌+◌, ◌<◌, ◌≤◌, Bool, true, false, cond, ◌==◌, Option, Some, None, List, [], ◌∷◌, ◌++◌, length, map, filter, Contains, refl, sym, ap, ◌∙◌, subst, arith, length-append, ◌⊎◌, inl, inr, ⊎_elim}
+use Rattle.std.proofs.Common.{◌≡◌, ℕ, zero, suc, ◌+◌, ◌<◌, ◌≤◌, Bool, true, false, cond, ◌==◌, Some, None, List, [], ◌∷◌, ◌++◌, length, map, filter, Contains, refl, sym, ap, ◌∙◌, subst, arith, length-append, ◌⊎◌, inl, inr, ⊎_elim}
 use Rattle.std.specs.Prelude.{nat_lt, is_some}
 use Rattle.std.specs.List.{slice_get}
 use Rattle.std.proofs.lemmas.List.{length-map}
@@ -24,15 +24,14 @@ use Rattle.epoch_inbox.specs.Inbox.{AreOfRegions, AreInOrder}
 use Rattle.epoch_inbox.specs.laws.Held.{held_counted, whole_ordered}
 use Rattle.index_store.specs.laws.Members.{from_flat_map}
 use Rattle.version_store.specs.Chains.{Version, Chain, kept_at, standing}
-use Rattle.version_store.specs.History.{Kept, IsKept, chain_of}
+use Rattle.version_store.specs.History.{IsKept, chain_of}
 use Rattle.version_store.specs.laws.Keeping.{grown_images}
 use Rattle.region_core.specs.Region.{Standing, RegionValue, next_epoch, horizon_at, inbox_of, batch_for, next_batches, next_candidates, last_in, no_versions, unpublished, with_standing}
 use Rattle.region_core.specs.Entries as entry
-use Rattle.region_core.specs.Entries.{Entry, crashed, started, after}
-use Rattle.region_core.specs.Publishing.{next_committed, next_outcomes, next_own_outcomes, Publishes, Becomes}
-use Rattle.region_core.specs.Refusals.{submit_refusal, seal_refusal}
-use Rattle.region_core.specs.Lawful.{IsHeldIn, IsStanding, ImagesFit, IsRegion, Accepts, EntryMakesRegion}
-use Rattle.region_core.specs.laws.Standings.{up_not_down, is_up, get_end, get_before, get_some, stands_after}
+use Rattle.region_core.specs.Entries.{crashed, started, after}
+use Rattle.region_core.specs.Publishing.{next_committed, next_outcomes, next_own_outcomes, Publishes}
+use Rattle.region_core.specs.Lawful.{IsHeldIn, IsStanding, ImagesFit, IsRegion, EntryMakesRegion}
+use Rattle.region_core.specs.laws.Standings.{up_not_down, is_up, get_end, get_before, stands_after}
 
 -- ---- images
 

@@ -9,7 +9,7 @@ use Rattle.std.specs.declared.cmp.Ordering.TheVariants.{Less}
 use Rattle.std.proofs.lemmas.Bool.{and_from, cases_lt, eqb-true, eq-eqb}
 use Rattle.std.proofs.lemmas.Bool.Decides.{nat_tests}
 use Rattle.std.proofs.lemmas.List.Elements.{All-nil, All-push, All-weaker, All-filter, All-from_recursion, recursion_from_All, filter_passes}
-use Rattle.geo_base.specs.declared.limits.TheConstants.{MAX_AGE, MAX_REGIONS, MAX_CANDIDATES, MAX_BATCH_BYTES, LAST_EPOCH}
+use Rattle.geo_base.specs.declared.limits.TheConstants.{MAX_AGE, MAX_CANDIDATES, MAX_BATCH_BYTES}
 use Rattle.geo_schema.specs.Schemas.{Tables}
 use Rattle.write_set.specs.declared.batch.Batch.{Batch}
 use Rattle.write_set.specs.declared.candidate.Candidate.{Candidate}
@@ -21,15 +21,14 @@ use Rattle.set_codec.specs.Fits.{FitsTable, FitsTables, FitsRegions, HaveCells}
 use Rattle.set_codec.specs.laws.Lengths.{size_is_length}
 use Rattle.own_log.specs.Logs.{IsOfLog, AreOfLog, AreOfLogFrom}
 use Rattle.own_log.specs.laws.Logs.{of_log_more}
-use Rattle.epoch_inbox.specs.declared.arrival.Arrival.{Arrival}
 use Rattle.epoch_inbox.specs.declared.arrival.Arrival.TheVariants.{New, Known, Far}
-use Rattle.epoch_inbox.specs.Inbox.{Holding, place_of, place_cmp, is_at, held_at, is_held, held_of, others, with_batch, arrival_of, IsLawful, IsWhole}
+use Rattle.epoch_inbox.specs.Inbox.{place_of, place_cmp, is_at, held_at, is_held, with_batch, arrival_of, IsWhole}
 use Rattle.epoch_inbox.specs.laws.Held.{all_with, put_there, taken_gone, held_counted}
 use Rattle.epoch_inbox.specs.laws.Rising.{lawful_with, lawful_without}
-use Rattle.region_core.specs.Region.{Standing, open_epoch, next_epoch, inbox_of, batch_for, own_batch, next_batches}
-use Rattle.region_core.specs.Entries.{Entry, Txn, Seal, Arrive, Publish, Crash, next_batch, down_with, started, after, after_all}
+use Rattle.region_core.specs.Region.{Standing, open_epoch, next_epoch, inbox_of, batch_for, next_batches}
+use Rattle.region_core.specs.Entries.{Txn, Seal, Arrive, Publish, Crash, next_batch, down_with, started, after}
 use Rattle.region_core.specs.Refusals.{is_full, submit_refusal, seal_refusal}
-use Rattle.region_core.specs.Lawful.{IsOpenIn, IsHeldIn, IsStanding, IsSubmittable, Accepts, AcceptsAll, StandsAfterEntry, StandsAfterHistory}
+use Rattle.region_core.specs.Lawful.{IsOpenIn, IsHeldIn, IsStanding, IsSubmittable, StandsAfterEntry, StandsAfterHistory}
 
 pub up_not_down : (up : Bool) → up ≡ true → up ≡ false → ⊥
 up_not_down true is not = cc

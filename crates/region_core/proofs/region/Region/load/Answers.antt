@@ -29,7 +29,7 @@ returns-clause-bad g c =
     subst
     (λ (r : RegionValue).
     (entry : ℕ) (fault : EntryFault) → IsErrOf c.load_log.result (load.BadLog entry fault) →
-        IfSome (g.L.Keepers.lists c.args.logs.now) (λ all. IsLogFault r.standing.tables r.standing.regions r.standing.number (list_of all r.standing.number) entry fault))
+    IfSome (g.L.Keepers.lists c.args.logs.now) (λ all. IsLogFault r.standing.tables r.standing.regions r.standing.number (list_of all r.standing.number) entry fault))
     c.self.view_is c.load_log.ensures.bad
 
 pub returns-clause-refused : goal.returns-clause-refused
@@ -37,5 +37,5 @@ returns-clause-refused g c =
     subst
     (λ (r : RegionValue).
     IfSome (g.L.Keepers.lists c.args.logs.now) (λ all. IsErrOf c.load_log.result load.LogFault
-        ⊎ Refuses load.NoMemory c.load_log.result (IsBadLog r.standing.tables r.standing.regions r.standing.number (list_of all r.standing.number))))
+    ⊎ Refuses load.NoMemory c.load_log.result (IsBadLog r.standing.tables r.standing.regions r.standing.number (list_of all r.standing.number))))
     c.self.view_is c.load_log.ensures.refused

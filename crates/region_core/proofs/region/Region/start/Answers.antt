@@ -13,8 +13,8 @@ pub invariant_of-self : goal.invariant_of-self
 invariant_of-self c =
     let a = c.self.inside in
     let holds : c.hold_all.new.inbox ≡ holding a.regions c.args.log.items =
-        now_holds a.regions c.new-inbox.result c.hold_all.new.inbox c.args.log.items c.as_slice.result.now
-        (went_well c.hold_all.result (sym c.is_err.ensures.value ∙ c.if-is_err.false) c.hold_all.ensures) c.new-inbox.ensures c.as_slice.ensures.value in
+    now_holds a.regions c.new-inbox.result c.hold_all.new.inbox c.args.log.items c.as_slice.result.now
+    (went_well c.hold_all.result (sym c.is_err.ensures.value ∙ c.if-is_err.false) c.hold_all.ensures) c.new-inbox.ensures c.as_slice.ensures.value in
     started_inside a c.self.invariant c.args.self.now c.self.view_is c.requires.down c.args.log.items _
     (log_inside a c.self.invariant c.args.self.now c.self.view_is c.requires.down c.args.log.items c.requires.of_log) holds
 
@@ -22,6 +22,6 @@ pub returns-clause-ok : goal.returns-clause-ok
 returns-clause-ok c =
     let a = c.self.inside in
     let holds : c.hold_all.new.inbox ≡ holding a.regions c.args.log.items =
-        now_holds a.regions c.new-inbox.result c.hold_all.new.inbox c.args.log.items c.as_slice.result.now
-        (went_well c.hold_all.result (sym c.is_err.ensures.value ∙ c.if-is_err.false) c.hold_all.ensures) c.new-inbox.ensures c.as_slice.ensures.value in
+    now_holds a.regions c.new-inbox.result c.hold_all.new.inbox c.args.log.items c.as_slice.result.now
+    (went_well c.hold_all.result (sym c.is_err.ensures.value ∙ c.if-is_err.false) c.hold_all.ensures) c.new-inbox.ensures c.as_slice.ensures.value in
     started_is a c.self.invariant c.args.self.now c.self.view_is c.requires.down c.args.log.items _ holds
